@@ -1,0 +1,4 @@
+pub mod Exact
+pub mod Sectioned
+pub mod Taken
+pub mod Windowed

@@ -1,0 +1,4 @@
+// The reader of a timing table's records: one record at a cursor, the sections one after the other, and the grid of the accesses.
+pub mod grid;
+pub mod records;
+pub mod sections;
