@@ -1,14 +1,14 @@
 -- Each task that was read has a window that fits its period, also where the table is refused later.
-use Prim.Native.Nat.{ℕ, _+_, _<_}
+use Prim.Native.Nat.{ℕ, _+_, _<_, _≤_}
 use mathlib.Core.Path.{_≡_, refl, ap, _∙_}
-use mathlib.Core.Bool.{Bool, true, false}
+use mathlib.Core.Bool.{Bool, true, false, _&&_, false≢true}
 use mathlib.Core.List.{List}
 use native.Mathlib.Omega.{arith}
-use lib.Dec.{eqb}
+use lib.Dec.{leb, ltb, eqb}
 use lib.ListN.{length, length-set}
 use lib.Seq.{getD-set-same, getD-set-other}
-use borrow.Author.Tests.{eqb-true, eqb-false}
-use Rattle.rules.specs.Table.{mostTasks, windowed}
+use borrow.Author.Tests.{leb-true, ltb-true, eqb-true, eqb-false}
+use Rattle.rules.specs.Table.{mostTasks, longest, windowed}
 use Rattle.rules.specs.Records.{taskAt}
 use Rattle.rules.specs.Reading.{Section, noTask, noTasks, putTask, taskOf, tasksIn}
 use Rattle.rules.specs.declared.Task.{Task}
@@ -52,6 +52,27 @@ tasks-windowed bytes =
     (mostTasks + 1) noTasks 0 (record { room = refl; windows = λ k l. absurd (omega (arith, l)) })
     .windows
 
--- the same of what the code read
+-- ---- what a caller of `read_tasks` learns from its contract
+
 pub read-windowed : (bytes : List ℕ) (r : TasksRead) → tasksSaid r ≡ tasksIn bytes → Windowed (r .tasks)
 read-windowed bytes r e = rw (ap (λ (s : Section Tasks). s .read) e) (tasks-windowed bytes)
+
+-- a window that fits, in numbers
+pub record Window (t : Task) : Type 0 where
+  pub opens : t .start < t .end
+  pub closes : t .end ≤ t .period
+  pub short : t .period ≤ longest
+
+both : (a b : Bool) → (a && b) ≡ true → (a ≡ true) × (b ≡ true)
+both true b e = (refl, e)
+both false b e = absurd (false≢true e)
+
+pub window : (t : Task) → fits t ≡ true → Window t
+unfolding windowed
+window t e =
+    let x = both (ltb (t .start) (t .end) && leb (t .end) (t .period)) (leb (t .period) longest) e in
+    let y = both (ltb (t .start) (t .end)) (leb (t .end) (t .period)) (x .0) in
+    record { opens = ltb-true (t .start) (t .end) (y .0); closes = leb-true (t .end) (t .period) (y .1); short = leb-true (t .period) longest (x .1) }
+
+pub read-window : (bytes : List ℕ) (r : TasksRead) → tasksSaid r ≡ tasksIn bytes → (k : ℕ) → k < r .tasks .count → Window (taskOf (r .tasks) k)
+read-window bytes r e k l = window (taskOf (r .tasks) k) (read-windowed bytes r e k l)
