@@ -1,0 +1,2 @@
+pub mod Windowed
+pub mod Forms
