@@ -1,0 +1,4 @@
+pub mod Passes
+pub mod Steps
+pub mod Standing
+pub mod Lives
