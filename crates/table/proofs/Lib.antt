@@ -1,0 +1,4 @@
+pub mod Totals
+pub mod Meeting
+pub mod Clashes
+pub mod Says

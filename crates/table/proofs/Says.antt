@@ -1,0 +1,103 @@
+-- Rules 7 to 11, one after the other.
+use mathlib.Core.Path.{_≡_, refl, ap, subst, _∙_}
+use mathlib.Core.List.{[]}
+use mathlib.Core.Bool.{cond, not}
+use mathlib.Core.Option.{none, some}
+use Prim.Native.Nat.{ℕ, _≤_, _<_}
+use native.Mathlib.Omega.{arith}
+use lib.Dec.{eqb, ltb}
+use borrow.Author.Tests.{eq-eqb, ne-eqb, lt-ltb, le-ltb}
+use Rattle.rules.specs.Words.{total, lowest, when, maybe}
+use Rattle.rules.specs.Windows.{Table, hyper, instances}
+use Rattle.rules.specs.Table.{longest, mostInstances, mostUses, accessesOf, uses, single, everyWriter}
+use Rattle.rules.specs.Numbers.{Told, tell, allDone, noTask, longHyper, manyInstances, manyUses, twoPublish}
+use Rattle.rules.specs.Answers.{tableSays}
+use Rattle.rules.specs.Reading.{Grid, tableOf}
+use Rattle.rules.specs.declared.Tasks.{Tasks}
+use Rattle.rules.specs.declared.Signals.{Signals}
+use Rattle.theory.proofs.Checked.{when-false}
+use Rattle.windows.specs.declared.Hyper.the-variants.{Ticks, Above}
+use Rattle.windows.specs.Forms.{hyperOf}
+use Rattle.windows.proofs.Periods.{IsHyper, hyper-is}
+use Rattle.table.specs.Forms.{timed, acceptedHyper, instancesIn, usesIn}
+
+-- the answers do not hang on the defaults
+module _ (tasks : Tasks) (signals : Signals) (grid : Grid) where
+  pub defaults-free : tableSays (tableOf tasks signals grid) ≡ tableSays (timed tasks (signals .count) grid)
+  unfolding tableSays hyper uses accessesOf single everyWriter
+  defaults-free = refl
+
+  pub hyper-free : hyper (tableOf tasks signals grid) ≡ hyper (timed tasks (signals .count) grid)
+  unfolding hyper
+  hyper-free = refl
+
+  pub accepted-free : acceptedHyper (tableOf tasks signals grid) ≡ acceptedHyper (timed tasks (signals .count) grid)
+  accepted-free = rw (defaults-free, hyper-free) refl
+
+-- what is said of a table, with the hyper-period where that is `done`
+abbrev pub Said : Table → Told → ℕ → Type 0
+Said tab t h = (t ≡ tableSays tab) × (h ≡ acceptedHyper tab)
+
+judged : (tab : Table) (t : Told) → t ≡ tableSays tab → Said tab t (cond (eqb (t .number) allDone) (hyper tab) 0)
+judged tab t e = (e, ap (λ (x : Told). cond (eqb (x .number) allDone) (hyper tab) 0) e)
+
+-- ---- 7 and 8
+
+pub says-no-task : (tab : Table) → tab .tasks ≡ 0 → Said tab (tell noTask 0) 0
+unfolding tableSays when
+says-no-task tab z = judged tab (tell noTask 0) (simp (eq-eqb (tab .tasks) 0 z))
+
+pub says-long : (tab : Table) → (tab .tasks ≡ 0 → ⊥) → longest < hyper tab → Said tab (tell longHyper 0) 0
+unfolding tableSays when
+says-long tab n l = judged tab (tell longHyper 0) (simp (ne-eqb (tab .tasks) 0 n, lt-ltb longest (hyper tab) l))
+
+-- ---- 9 to 11, by what the code counted and found
+
+module _ (tab : Table) (n : 0 < tab .tasks) (h : ℕ) (l : h ≤ longest) (e : h ≡ hyper tab) where
+  -- past 7 and 8
+  short : tableSays tab
+      ≡ when (ltb mostInstances (total (instances tab) (tab .tasks))) (tell manyInstances 0)
+      (when (ltb mostUses (uses tab)) (tell manyUses 0)
+      (maybe (lowest (λ s. not (single tab s)) (tab .signals)) (tell allDone 0) (λ s. tell twoPublish s)))
+  unfolding tableSays
+  short =
+      when-false (eqb (tab .tasks) 0) _ _ (ne-eqb (tab .tasks) 0 (λ z. omega arith))
+      ∙ when-false (ltb longest (hyper tab)) _ _ (le-ltb longest (hyper tab) (omega arith))
+
+  -- and past 9 and 10
+  few : total (instances tab) (tab .tasks) ≤ mostInstances → uses tab ≤ mostUses
+      → tableSays tab ≡ maybe (lowest (λ s. not (single tab s)) (tab .signals)) (tell allDone 0) (λ s. tell twoPublish s)
+  few i u =
+      short ∙ when-false (ltb mostInstances (total (instances tab) (tab .tasks))) _ _ (le-ltb mostInstances (total (instances tab) (tab .tasks)) i)
+      ∙ when-false (ltb mostUses (uses tab)) _ _ (le-ltb mostUses (uses tab) u)
+
+  pub says-instances : mostInstances < total (instances tab) (tab .tasks) → Said tab (tell manyInstances 0) 0
+  unfolding when
+  says-instances g = judged tab (tell manyInstances 0) (rw (short, lt-ltb mostInstances (total (instances tab) (tab .tasks)) g) refl)
+
+  pub says-uses : total (instances tab) (tab .tasks) ≤ mostInstances → mostUses < uses tab → Said tab (tell manyUses 0) 0
+  unfolding when
+  says-uses i g = judged tab (tell manyUses 0) (rw (short, le-ltb mostInstances (total (instances tab) (tab .tasks)) i, lt-ltb mostUses (uses tab) g) refl)
+
+  pub says-clash : total (instances tab) (tab .tasks) ≤ mostInstances → uses tab ≤ mostUses → (s : ℕ) → lowest (λ r. not (single tab r)) (tab .signals) ≡ some s → Said tab (tell twoPublish s) 0
+  says-clash i u s o = judged tab (tell twoPublish s) (rw (few i u, o) refl)
+
+  pub says-done : total (instances tab) (tab .tasks) ≤ mostInstances → uses tab ≤ mostUses → lowest (λ r. not (single tab r)) (tab .signals) ≡ none → Said tab (tell allDone 0) h
+  says-done i u o = let j = judged tab (tell allDone 0) (rw (few i u, o) refl) in (j .0, e ∙ j .1)
+
+-- the sums of the code are those of rules
+module _ (tasks : Tasks) (signals : ℕ) (grid : Grid) (h : ℕ) (e : h ≡ hyper (timed tasks signals grid)) where
+  pub instances-are : {a : ℕ} → a ≡ instancesIn tasks h (tasks .count) → a ≡ total (instances (timed tasks signals grid)) (tasks .count)
+  instances-are q = q ∙ rw e refl
+
+  pub uses-are : {a : ℕ} → a ≡ usesIn tasks signals grid h (tasks .count) → a ≡ uses (timed tasks signals grid)
+  unfolding uses accessesOf
+  uses-are q = q ∙ rw e refl
+
+-- so is the hyper-period
+module _ (tasks : Tasks) (signals : ℕ) (grid : Grid) where
+  pub hyper-ticks : {h : ℕ} → hyperOf tasks ≡ Ticks h → (h ≡ hyper (timed tasks signals grid)) × (h ≤ longest)
+  hyper-ticks {h} e = let (p, q) = subst (IsHyper (hyper (timed tasks signals grid))) e (hyper-is tasks (record { defaults = []; count = signals }) grid) in (p, omega arith)
+
+  pub hyper-above : hyperOf tasks ≡ Above → longest < hyper (timed tasks signals grid)
+  hyper-above e = subst (IsHyper (hyper (timed tasks signals grid))) e (hyper-is tasks (record { defaults = []; count = signals }) grid)
