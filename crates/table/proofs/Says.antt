@@ -2,7 +2,6 @@
 use mathlib.Core.Path.{_≡_, refl, ap, subst, _∙_}
 use mathlib.Core.List.{[]}
 use mathlib.Core.Bool.{cond, not}
-use mathlib.Core.Option.{none, some}
 use Prim.Native.Nat.{ℕ, _≤_, _<_}
 use native.Mathlib.Omega.{arith}
 use lib.Dec.{eqb, ltb}
@@ -17,9 +16,11 @@ use Rattle.rules.specs.declared.Tasks.{Tasks}
 use Rattle.rules.specs.declared.Signals.{Signals}
 use Rattle.theory.proofs.Checked.{when-false}
 use Rattle.windows.specs.declared.Hyper.the-variants.{Ticks, Above}
+use Rattle.windows.specs.Windowed.{AllWindowed}
 use Rattle.windows.specs.Forms.{hyperOf}
 use Rattle.windows.proofs.Periods.{IsHyper, hyper-is}
-use Rattle.table.specs.Forms.{timed, acceptedHyper, instancesIn, usesIn}
+use Rattle.table.specs.Forms.{timed, acceptedHyper, instancesIn, usesIn, firstClash}
+use Rattle.table.proofs.Clashes.{clash-some, clash-none}
 
 -- the answers do not hang on the defaults
 module _ (tasks : Tasks) (signals : Signals) (grid : Grid) where
@@ -51,18 +52,16 @@ pub says-long : (tab : Table) → (tab .tasks ≡ 0 → ⊥) → longest < hyper
 unfolding tableSays when
 says-long tab n l = judged tab (tell longHyper 0) (simp (ne-eqb (tab .tasks) 0 n, lt-ltb longest (hyper tab) l))
 
--- ---- 9 to 11, by what the code counted and found
+-- ---- 9 to 11
 
-module _ (tab : Table) (n : 0 < tab .tasks) (h : ℕ) (l : h ≤ longest) (e : h ≡ hyper tab) where
+module _ (tab : Table) (n : 0 < tab .tasks) (h : hyper tab ≤ longest) where
   -- past 7 and 8
   short : tableSays tab
       ≡ when (ltb mostInstances (total (instances tab) (tab .tasks))) (tell manyInstances 0)
       (when (ltb mostUses (uses tab)) (tell manyUses 0)
       (maybe (lowest (λ s. not (single tab s)) (tab .signals)) (tell allDone 0) (λ s. tell twoPublish s)))
   unfolding tableSays
-  short =
-      when-false (eqb (tab .tasks) 0) _ _ (ne-eqb (tab .tasks) 0 (λ z. omega arith))
-      ∙ when-false (ltb longest (hyper tab)) _ _ (le-ltb longest (hyper tab) (omega arith))
+  short = when-false (eqb (tab .tasks) 0) _ _ (ne-eqb (tab .tasks) 0 (λ z. omega arith)) ∙ when-false (ltb longest (hyper tab)) _ _ (le-ltb longest (hyper tab) h)
 
   -- and past 9 and 10
   few : total (instances tab) (tab .tasks) ≤ mostInstances → uses tab ≤ mostUses
@@ -71,30 +70,42 @@ module _ (tab : Table) (n : 0 < tab .tasks) (h : ℕ) (l : h ≤ longest) (e : h
       short ∙ when-false (ltb mostInstances (total (instances tab) (tab .tasks))) _ _ (le-ltb mostInstances (total (instances tab) (tab .tasks)) i)
       ∙ when-false (ltb mostUses (uses tab)) _ _ (le-ltb mostUses (uses tab) u)
 
-  pub says-instances : mostInstances < total (instances tab) (tab .tasks) → Said tab (tell manyInstances 0) 0
+-- by what the code counted in the hyper-period h
+module _ (tasks : Tasks) (signals : ℕ) (grid : Grid) (w : AllWindowed tasks) (n : 0 < tasks .count) (h : ℕ) (l : h ≤ longest) (e : h ≡ hyper (timed tasks signals grid)) {a : ℕ} (i : a ≡ instancesIn tasks h (tasks .count)) where
+  abbrev tab : Table
+  tab = timed tasks signals grid
+
+  instances-are : a ≡ total (instances tab) (tasks .count)
+  instances-are = i ∙ rw e refl
+
+  pub says-instances : mostInstances < a → Said tab (tell manyInstances 0) 0
   unfolding when
-  says-instances g = judged tab (tell manyInstances 0) (rw (short, lt-ltb mostInstances (total (instances tab) (tab .tasks)) g) refl)
+  says-instances g =
+      judged tab (tell manyInstances 0)
+      (rw (short tab n (omega arith), lt-ltb mostInstances (total (instances tab) (tasks .count)) (omega (arith, instances-are))) refl)
 
-  pub says-uses : total (instances tab) (tab .tasks) ≤ mostInstances → mostUses < uses tab → Said tab (tell manyUses 0) 0
-  unfolding when
-  says-uses i g = judged tab (tell manyUses 0) (rw (short, le-ltb mostInstances (total (instances tab) (tab .tasks)) i, lt-ltb mostUses (uses tab) g) refl)
+  module _ (f : a ≤ mostInstances) {b : ℕ} (u : b ≡ usesIn tasks signals grid h (tasks .count)) where
+    uses-are : b ≡ uses tab
+    unfolding uses accessesOf
+    uses-are = u ∙ rw e refl
 
-  pub says-clash : total (instances tab) (tab .tasks) ≤ mostInstances → uses tab ≤ mostUses → (s : ℕ) → lowest (λ r. not (single tab r)) (tab .signals) ≡ some s → Said tab (tell twoPublish s) 0
-  says-clash i u s o = judged tab (tell twoPublish s) (rw (few i u, o) refl)
+    pub says-uses : mostUses < b → Said tab (tell manyUses 0) 0
+    unfolding when
+    says-uses g =
+        judged tab (tell manyUses 0)
+        (rw (short tab n (omega arith), le-ltb mostInstances (total (instances tab) (tasks .count)) (omega (arith, instances-are)), lt-ltb mostUses (uses tab) (omega (arith, uses-are))) refl)
 
-  pub says-done : total (instances tab) (tab .tasks) ≤ mostInstances → uses tab ≤ mostUses → lowest (λ r. not (single tab r)) (tab .signals) ≡ none → Said tab (tell allDone 0) h
-  says-done i u o = let j = judged tab (tell allDone 0) (rw (few i u, o) refl) in (j .0, e ∙ j .1)
+    module _ (v : b ≤ mostUses) {s : ℕ} (c : s ≡ firstClash tasks signals grid) where
+      found : tableSays tab ≡ maybe (lowest (λ s. not (single tab s)) signals) (tell allDone 0) (λ s. tell twoPublish s)
+      found = few tab n (omega arith) (omega (arith, instances-are)) (omega (arith, uses-are))
 
--- the sums of the code are those of rules
-module _ (tasks : Tasks) (signals : ℕ) (grid : Grid) (h : ℕ) (e : h ≡ hyper (timed tasks signals grid)) where
-  pub instances-are : {a : ℕ} → a ≡ instancesIn tasks h (tasks .count) → a ≡ total (instances (timed tasks signals grid)) (tasks .count)
-  instances-are q = q ∙ rw e refl
+      pub says-clash : s < signals → Said tab (tell twoPublish s) 0
+      says-clash g = judged tab (tell twoPublish s) (rw (found, clash-some tasks signals grid w s c g) refl)
 
-  pub uses-are : {a : ℕ} → a ≡ usesIn tasks signals grid h (tasks .count) → a ≡ uses (timed tasks signals grid)
-  unfolding uses accessesOf
-  uses-are q = q ∙ rw e refl
+      pub says-done : signals ≤ s → Said tab (tell allDone 0) h
+      says-done g = let j = judged tab (tell allDone 0) (rw (found, clash-none tasks signals grid w s c g) refl) in (j .0, e ∙ j .1)
 
--- so is the hyper-period
+-- ---- the hyper-period found is that of rules
 module _ (tasks : Tasks) (signals : ℕ) (grid : Grid) where
   pub hyper-ticks : {h : ℕ} → hyperOf tasks ≡ Ticks h → (h ≡ hyper (timed tasks signals grid)) × (h ≤ longest)
   hyper-ticks {h} e = let (p, q) = subst (IsHyper (hyper (timed tasks signals grid))) e (hyper-is tasks (record { defaults = []; count = signals }) grid) in (p, omega arith)

@@ -3,9 +3,6 @@ mod apart;
 mod sums;
 mod verdict;
 
-pub use apart::first_clash;
-pub use sums::all_instances;
-pub use sums::all_uses;
 pub use verdict::judge;
 
 // The answer, and the hyper-period of a table that is accepted, else 0.

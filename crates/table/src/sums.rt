@@ -11,7 +11,7 @@ ghost use Rattle.rules.specs.Table.{mostTasks, mostSignals, longest};
 ghost use Rattle.windows.specs.Windowed.{AllWindowed};
 ghost use Rattle.table.specs.Forms.{instancesIn, accessesIn, usesIn};
 
-// Of all tasks.
+// How many instances all tasks have.
 pub fn all_instances(tasks: Tasks, hyper: u32) -> u32
     requires { ⌜ (tasks .count ≤ mostTasks) × AllWindowed tasks × (hyper ≤ longest) ⌝ }
     ensures { λ r. ⌜ r ≡ instancesIn tasks hyper (tasks .count) ⌝ }
@@ -25,6 +25,7 @@ pub fn all_instances(tasks: Tasks, hyper: u32) -> u32
     sum
 }
 
+// What one right counts.
 pub fn one_if(right: bool) -> u32
     ensures { λ r. ⌜ r ≡ bit right ⌝ }
 {
