@@ -4,7 +4,7 @@ use Prim.Native.Nat.{ℕ, _+_, _*_, max}
 use lib.Dec.{ltb}
 use Rattle.rules.specs.Words.{when}
 use Rattle.rules.specs.Windows.{Table}
-use Rattle.rules.specs.Values.{Value, closing}
+use Rattle.rules.specs.Values.{Value, carried, closing}
 use Rattle.rules.specs.Plan as plan
 use Rattle.rules.specs.Reading.{taskOf}
 use Rattle.rules.specs.declared.Task.{Task}
@@ -15,12 +15,13 @@ use Rattle.windows.specs.Forms.{lastClosed, nextClosing, lastOpened}
 use Rattle.signals.specs.declared.Publication.{Publication}
 use Rattle.signals.specs.Pass.{pass}
 
--- a value as the code gives it: the carried one has tick 0, task 255 and instance 0
+-- a value as the code gives it: when it is published, and the task and instance that document 01 gives it
 abbrev pub publicationOf : Table → Value → Publication
 publicationOf tab v = record { tick = closing tab v; task = plan.taskOf v; instance = plan.instanceOf v }
 
+-- the carried value, of whatever signal
 abbrev pub nothingYet : Publication
-nothingYet = record { tick = 0; task = 255; instance = 0 }
+nothingYet = record { tick = 0; task = plan.taskOf (carried 0); instance = plan.instanceOf (carried 0) }
 
 -- the later of what was found so far and the closing of instance i of task number k
 abbrev pub laterIf : Task → ℕ → Publication → Found → Publication

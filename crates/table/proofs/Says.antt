@@ -11,7 +11,7 @@ use Rattle.rules.specs.Windows.{Table, hyper, instances}
 use Rattle.rules.specs.Table.{longest, mostInstances, mostUses, accessesOf, uses, single, everyWriter}
 use Rattle.rules.specs.Numbers.{Told, tell, allDone, noTask, longHyper, manyInstances, manyUses, twoPublish}
 use Rattle.rules.specs.Answers.{tableSays}
-use Rattle.rules.specs.Reading.{Grid, tableOf}
+use Rattle.rules.specs.Reading.{Grid, tableOf, acceptedHyper}
 use Rattle.rules.specs.declared.Tasks.{Tasks}
 use Rattle.rules.specs.declared.Signals.{Signals}
 use Rattle.theory.proofs.Checked.{when-false}
@@ -19,7 +19,7 @@ use Rattle.windows.specs.declared.Hyper.the-variants.{Ticks, Above}
 use Rattle.windows.specs.Windowed.{AllWindowed}
 use Rattle.windows.specs.Forms.{hyperOf}
 use Rattle.windows.proofs.Periods.{IsHyper, hyper-is}
-use Rattle.table.specs.Forms.{timed, acceptedHyper, instancesIn, usesIn, firstClash}
+use Rattle.table.specs.Forms.{timed, instancesIn, usesIn, firstClash}
 use Rattle.table.proofs.Clashes.{clash-some, clash-none}
 
 -- the answers do not hang on the defaults

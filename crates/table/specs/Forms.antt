@@ -1,13 +1,11 @@
 -- What the code computes of a table whose records were read. Assumes nothing.
-use mathlib.Core.Bool.{Bool, not, _||_, cond}
+use mathlib.Core.Bool.{Bool, not, _||_}
 use mathlib.Core.List.{[]}
 use Prim.Native.Nat.{ℕ, _+_, _*_, _/_, _%_}
 use lib.Dec.{eqb}
 use Rattle.rules.specs.Words.{total, every, lowest, maybe, bit}
 use Rattle.rules.specs.Euclid.{gcdOf}
-use Rattle.rules.specs.Windows.{Table, hyper}
-use Rattle.rules.specs.Numbers.{allDone}
-use Rattle.rules.specs.Answers.{tableSays}
+use Rattle.rules.specs.Windows.{Table}
 use Rattle.rules.specs.Reading.{Grid, taskOf, tableOf, writesIn, readsIn}
 use Rattle.rules.specs.declared.Task.{Task}
 use Rattle.rules.specs.declared.Tasks.{Tasks}
@@ -15,10 +13,6 @@ use Rattle.rules.specs.declared.Tasks.{Tasks}
 -- the table of these tasks, so many signals and this grid: rules 7 to 11 do not look at the defaults
 abbrev pub timed : Tasks → ℕ → Grid → Table
 timed tasks signals grid = tableOf tasks (record { defaults = []; count = signals }) grid
-
--- the hyper-period of a table that is accepted, else 0
-abbrev pub acceptedHyper : Table → ℕ
-acceptedHyper tab = cond (eqb (tableSays tab .number) allDone) (hyper tab) 0
 
 -- ---- sums over h ticks, of the tasks or signals below n
 

@@ -1,8 +1,11 @@
-// Rules 7 to 11 of document 01: a table whose records were read is judged as a whole.
+// A table's bytes read: the records, then rules 7 to 11 on the table as a whole.
 mod apart;
+mod reading;
 mod sums;
 mod verdict;
 
+pub use reading::TableRead;
+pub use reading::read_table;
 pub use verdict::judge;
 
 // The answer, and the hyper-period of a table that is accepted, else 0.

@@ -15,7 +15,8 @@ ghost use Rattle.rules.specs.Table.{mostTasks, mostSignals, longest};
 ghost use Rattle.rules.specs.Numbers.{told};
 ghost use Rattle.rules.specs.Answers.{tableSays};
 ghost use Rattle.windows.specs.Windowed.{AllWindowed};
-ghost use Rattle.table.specs.Forms.{timed, acceptedHyper};
+ghost use Rattle.rules.specs.Reading.{acceptedHyper};
+ghost use Rattle.table.specs.Forms.{timed};
 
 // 9 to 11, where the hyper-period is known.
 pub fn judge_within(
