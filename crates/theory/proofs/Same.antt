@@ -19,7 +19,7 @@ lcm-below f g zero e = refl
 lcm-below f g (suc n) e = ap₂ lcmOf (lcm-below f g n (λ k h. e k (omega arith))) (e n (omega arith))
 
 module _ (a b : Table) (S : SameTable a b) where
-  same-hyper : hyper a ≡ hyper b
+  pub same-hyper : hyper a ≡ hyper b
   unfolding hyper
   same-hyper = ap (lcmAll (a .period)) (S .tasks) ∙ lcm-below (a .period) (b .period) (b .tasks) (S .period)
 

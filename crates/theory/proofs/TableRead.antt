@@ -11,7 +11,7 @@ use Rattle.rules.specs.Windows.{Table}
 use Rattle.rules.specs.Table.{mostTasks, mostSignals, mostAccesses, windowed, windowFits}
 use Rattle.rules.specs.Fields.{EN, holdsAt, markAt}
 use Rattle.rules.specs.Records.{Step, End, accessAt, endAt}
-use Rattle.rules.specs.Reading.{Section, section, follow, from, noTask, noTasks, tasksIn, noSignals, signalsIn, signalsOf, putAccess, accessesFrom, accessesIn, accessesOf, Marked, putMarked, noMarked, markedFrom, gridFrom, gridIn, tableOf, tableIn, ended, verdict, readSays}
+use Rattle.rules.specs.Reading.{Section, section, follow, from, noTask, noTasks, tasksIn, noSignals, signalsIn, signalsOf, putAccess, accessesFrom, accessesIn, accessesOf, Marked, putMarked, noMarked, markedFrom, gridFrom, gridIn, tableOf, tableIn, ended, verdict, readSays, endOf}
 use Rattle.rules.specs.Answers.{tableSays}
 use Rattle.rules.specs.declared.Task.{Task}
 use Rattle.rules.specs.declared.Access.{Access}
@@ -125,34 +125,36 @@ module _ (bytes : List ℕ) where
   -- ---- what was read is accepted
 
   -- EN stands there and nothing after it, and the whole table is right
-  end-right : (tab : Table) (p : ℕ) → verdict tab (endAt bytes p) .number ≡ 0 → (tableSays tab .number ≡ 0) × (drop p bytes ≡ EN)
+  end-right : (tab : Table) (p : ℕ) → verdict tab (endAt bytes p) .number ≡ 0 → (tableSays tab .number ≡ 0) × (drop p bytes ≡ EN) × (endAt bytes p ≡ End.at (p + 2))
   unfolding verdict endAt
   end-right tab p =
-      let Q : End → Type 0 = λ e. verdict tab e .number ≡ 0 → (tableSays tab .number ≡ 0) × (drop p bytes ≡ EN) in
+      let Q : End → Type 0 = λ e. verdict tab e .number ≡ 0 → (tableSays tab .number ≡ 0) × (drop p bytes ≡ EN) × (e ≡ End.at (p + 2)) in
       when-right Q (not (holdsAt bytes p 2)) _ _ (λ h e. absurd (omega arith)) (λ h.
       when-right Q (not (markAt bytes p EN)) _ _ (λ m e. absurd (omega arith)) (λ m.
       when-right Q (ltb (p + 2) (length bytes)) _ _ (λ l e. absurd (omega arith)) (λ l e. (
         e,
         mark-written bytes p 69 78 (not-false (markAt bytes p EN) m) ∙ ap (λ l. 69 ∷ 78 ∷ l) (drop-of-length-le bytes {i = p + 2} (ltb-false (p + 2) (length bytes) l)),
+        refl,
       ))))
 
-  accepted-spans : (tab : Table) (ys : List ℕ) (e : End) → Spans bytes ys (End.at 0) e → verdict tab (ended bytes e) .number ≡ 0 → (tableSays tab .number ≡ 0) × (AreBytes bytes → bytes ≡ ys ++ EN)
+  accepted-spans : (tab : Table) (ys : List ℕ) (e : End) → Spans bytes ys (End.at 0) e → verdict tab (ended bytes e) .number ≡ 0
+      → (tableSays tab .number ≡ 0) × (AreBytes bytes → bytes ≡ ys ++ EN) × ((p : ℕ) × (ended bytes e ≡ End.at p))
   unfolding verdict ended
-  accepted-spans tab ys (End.at q) (over f) e = let r = end-right tab q e in (r .0, λ o. f o ∙ ap {B = List ℕ} (λ l. ys ++ l) (r .1))
+  accepted-spans tab ys (End.at q) (over f) e = let r = end-right tab q e in (r .0, (λ o. f o ∙ ap {B = List ℕ} (λ l. ys ++ l) (r .1)), (q + 2, r .2))
   accepted-spans tab ys (End.refused t) (stopped u n) e = absurd (n e)
 
   -- the bytes of all that was read
   abbrev readBytes : List ℕ
   readBytes = flatMap taskForm (tasks-walked .records) ++ flatMap signalForm (signals-walked .records) ++ flatMap accessForm (accesses-walked .records)
 
-  accepted : readSays bytes .number ≡ 0 → (tableSays (tableIn bytes) .number ≡ 0) × (AreBytes bytes → bytes ≡ readBytes ++ EN)
+  accepted : readSays bytes .number ≡ 0 → (tableSays (tableIn bytes) .number ≡ 0) × (AreBytes bytes → bytes ≡ readBytes ++ EN) × ((p : ℕ) × (endOf bytes ≡ End.at p))
   unfolding readSays
   accepted =
       accepted-spans (tableIn bytes) readBytes (accessesOf bytes .end)
       (rw (same-end (signalsOf bytes .end) (tasksIn bytes .read .count) (signalsOf bytes .read .count)) (join (join (tasks-walked .spans) (signals-walked .spans)) (accesses-walked .spans)))
 
   pub read-keeps : ReadKeeps bytes
-  read-keeps = record { read = read; accepted = λ e. table-exact (tableIn bytes) read .0 (accepted e .0) }
+  read-keeps = record { read = read; accepted = λ e. table-exact (tableIn bytes) read .0 (accepted e .0); whole = λ e. accepted e .2 }
 
   read-wide : AreBytes bytes → Wide (tableIn bytes)
   read-wide o s h =

@@ -1,0 +1,38 @@
+-- Demand 2, first sentence, about `table::read_table`: a table is accepted exactly when document 01's rules hold. proofs/Tables.antt proves it.
+-- Assumes nothing.
+use Prim.Native.Nat.{ℕ}
+use mathlib.Core.Path.{_≡_}
+use mathlib.Core.List.{List}
+use mathlib.Core.Logic.{_↔_}
+use Rattle.rules.specs.Windows.{Table, hyper}
+use Rattle.rules.specs.Table.{Fits}
+use Rattle.rules.specs.Numbers.{Told, told, allDone}
+use Rattle.rules.specs.Encode.{encode}
+use Rattle.rules.specs.Records.{End}
+use Rattle.rules.specs.Reading.{tableOf, gridIn, tableIn, endOf, tableRead}
+use Rattle.theory.specs.First.{FirstBroken, tableRules, BrokenTable, tableTold}
+use Rattle.theory.specs.TableBytes.{SameTable, Wide, AreBytes}
+use Rattle.table.specs.declared.reading.TableRead.{TableRead}
+use Rattle.table.specs.Said.{tableSaid}
+
+-- r is what `read_table` gives for these bytes: its contract
+abbrev pub Gives : List ℕ → TableRead → Type 0
+Gives bytes r = tableSaid r ≡ tableRead bytes
+
+pub record ReadExactly (bytes : List ℕ) (r : TableRead) : Type 0 where
+  -- it is accepted exactly where the bytes are those of a table that keeps every rule,
+  pub accepted : (told (r .answer) .number ≡ allDone) ↔ ((tab : Table) × Fits tab × Wide tab × (bytes ≡ encode tab))
+  -- of that table, and there is no other,
+  pub same : (tab : Table) → Fits tab → Wide tab → bytes ≡ encode tab → SameTable (tableOf (r .tasks) (r .signals) (gridIn bytes)) tab
+  -- with its hyper-period.
+  pub period : (tab : Table) → Fits tab → Wide tab → bytes ≡ encode tab → r .hyper ≡ hyper tab
+  -- A record that is refused gives the number and place of its first broken rule, 1 to 6, as `Records` lists them;
+  pub record-refused : (t : Told) → endOf bytes ≡ End.refused t → told (r .answer) ≡ t
+  -- where all records are read, the first broken rule of 7 to 11 gives them.
+  pub whole-refused : (p : ℕ) → endOf bytes ≡ End.at p → FirstBroken (BrokenTable (tableIn bytes)) tableTold (tableRules (tableIn bytes)) (told (r .answer))
+  -- No other result meets the contract.
+  pub one : (q : TableRead) → Gives bytes q → q ≡ r
+
+-- So it is for all bytes.
+abbrev pub TablesExactly : Type 0
+TablesExactly = (bytes : List ℕ) → AreBytes bytes → (r : TableRead) → Gives bytes r → ReadExactly bytes r
