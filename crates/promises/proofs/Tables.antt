@@ -18,7 +18,7 @@ use Rattle.theory.proofs.Proved.{table-accepted-exactly, table-reads-back, tabl
 use Rattle.theory.proofs.Same.{same-hyper}
 use Rattle.table.specs.declared.reading.TableRead.{TableRead}
 use Rattle.table.specs.Said.{tableSaid}
-use Rattle.table.proofs.Exact.{table-exact}
+use Rattle.table.proofs.Exact.{table-exact, answer-says}
 use Rattle.promises.specs.Tables.{Gives, ReadExactly, TablesExactly}
 
 -- what reading says, by how the records end
@@ -32,8 +32,7 @@ judged bytes p e = ap (verdict (tableIn bytes)) e
 
 module _ (bytes : List ℕ) (r : TableRead) (g : Gives bytes r) where
   answer-is : told (r .answer) ≡ readSays bytes
-  unfolding tableRead
-  answer-is = ap (λ (t : TableSaid). t .answer) g
+  answer-is = answer-says bytes r g
 
   table-is : tableOf (r .tasks) (r .signals) (gridIn bytes) ≡ tableIn bytes
   unfolding tableRead tableIn

@@ -1,0 +1,12 @@
+use mathlib.Core.Path.{ap, _∙_}
+use borrow.Author.Needs.{needs}
+use Rattle.rules.specs.Numbers.{Told}
+use Rattle.table.proofs.Exact.{answer-says}
+use Rattle.export.proofs.press_table_number.Statement.{statement}
+use Rattle.export.proofs.press_table_number.Tie as tie
+
+returns : tie.Need-returns
+returns c = c .number .ensures ∙ ap (λ (t : Told). t .number) (answer-says _ (c .before .read-table .result) (c .before .read-table .ensures))
+
+pub press-table-number-spec : {M : Type 1} → statement M
+press-table-number-spec = tie.close (tie.spec (λ c κs. search needs) (λ c κs. search needs) returns)
