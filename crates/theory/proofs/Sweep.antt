@@ -14,7 +14,7 @@ use Rattle.rules.specs.Windows.{Table, opens, closes, instance, instances, hype
 use Rattle.rules.specs.Values.{Value, carried, by, signalOf, publisher, latest, bound, opening, closing, until, IsValue}
 use Rattle.rules.specs.Table.{Fits}
 use Rattle.rules.specs.Schedule.{Schedule, most, elementOf}
-use Rattle.theory.specs.Sweep.{Pass, never, noneHeld, reading, writing, publishing, started}
+use Rattle.theory.specs.Sweep.{Pass, never, noneHeld, readerOpens, writerOpens, writerCloses, started}
 use Rattle.theory.proofs.Tests.{split, both, and-is}
 use Rattle.theory.proofs.Time.{instance-is, instance-lt, closes-le, publisher-some}
 use Rattle.theory.proofs.Bound.{bound-none, bound-some, bound-signal, bound-value, closing-le, live-writer, live-bound, live-begins}
@@ -170,11 +170,11 @@ module _ (tab : Table) (F : Fits tab) (E : Schedule) (s : ℕ) (y : s < tab .sig
     }
 
     module _ (o : opens tab k (instance tab k t) ≡ t) where
-      pub reader-opens : T (tab .reads s k) → Kept t k l p → Kept t (suc k) l (reading tab E s p k t)
+      pub reader-opens : T (tab .reads s k) → Kept t k l p → Kept t (suc k) l (readerOpens tab E s p k t)
       reader-opens r K = record {
         size = K .size;
         current = K .current;
-        reached = opened-each tab (λ j i. Reader j i → closing tab (bound tab s t) ≤ opens tab j i → closes tab j i ≤ reading tab E s p k t .reach) t k
+        reached = opened-each tab (λ j i. Reader j i → closing tab (bound tab s t) ≤ opens tab j i → closes tab j i ≤ readerOpens tab E s p k t .reach) t k
             (λ j i a b d. omega (arith, K .reached j i a b d))
             (λ i e b d. rw (opens-instance tab F k i t m e) (omega arith));
         reader =
@@ -269,7 +269,7 @@ module _ (tab : Table) (F : Fits tab) (E : Schedule) (s : ℕ) (y : s < tab .sig
             (⊎-elim (λ n. inl n) (λ (v, x, z, b, n, d). inr (v, x, z, begun-more tab t k v b, n, d)) (H .holder e)));
       }
 
-      pub writer-opens : Kept t l k p → Kept t l (suc k) (writing tab E s p k t)
+      pub writer-opens : Kept t l k p → Kept t l (suc k) (writerOpens tab E s p k t)
       writer-opens K = record {
         size = length-set (p .held) (elementOf E mine) never ∙ K .size;
         current = K .current;
@@ -417,7 +417,7 @@ module _ (tab : Table) (F : Fits tab) (E : Schedule) (s : ℕ) (y : s < tab .sig
                 (H .holder e)));
           }
 
-      pub writer-closes : elementOf E stood < most tab → Kept (suc t) 0 0 (publishing tab E s p k t)
+      pub writer-closes : elementOf E stood < most tab → Kept (suc t) 0 0 (writerCloses tab E s p k t)
       writer-closes low =
           let e = bound-some tab s t k n in
           record {

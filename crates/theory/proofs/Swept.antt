@@ -15,7 +15,7 @@ use Rattle.rules.specs.Windows.{Table, opens, closes, instance, instances, hype
 use Rattle.rules.specs.Values.{Value, carried, by, signalOf, publisher, bound, opening, until, IsValue}
 use Rattle.rules.specs.Table.{mostTasks, Fits}
 use Rattle.rules.specs.Schedule.{Schedule, most, elementOf}
-use Rattle.theory.specs.Sweep.{closingNumber, openingNumber, taskIn, tickIn, isOpening, openingsAt, closingsAfter, events, through, Pass, reading, writing, publishing, opened, closed, handled, started, sweep, SignalPasses, SweepExact, SweepsExact}
+use Rattle.theory.specs.Sweep.{closingNumber, openingNumber, taskIn, tickIn, isOpening, openingsAt, closingsAfter, events, through, Pass, readerOpens, writerOpens, writerCloses, opened, closed, handled, started, sweep, SignalPasses, SweepExact, SweepsExact}
 use Rattle.theory.proofs.Tests.{split, splitOption, both, is, holds, not-both}
 use Rattle.theory.proofs.Time.{highest-some, instance-lt, closes-le}
 use Rattle.theory.proofs.Bound.{bound-signal, bound-value, live-begins}
@@ -70,7 +70,7 @@ module _ (tab : Table) (F : Fits tab) (E : Schedule) (s : ℕ) (y : s < tab .sig
   -- of the tasks that close at t + 1 only the one that publishes signal s matters
   closings-are : (t : ℕ) (p : Pass) (n : ℕ) → t < hyper tab → n ≤ tab .tasks
       → through (handled tab E s) p (gather n (λ k. only (eqb (closes tab k (instance tab k t)) (suc t)) (closingNumber (suc t) k)))
-      ≡ maybe (highest (λ k. tab .writes s k && eqb (closes tab k (instance tab k t)) (suc t)) n) p (λ k. publishing tab E s p k t)
+      ≡ maybe (highest (λ k. tab .writes s k && eqb (closes tab k (instance tab k t)) (suc t)) n) p (λ k. writerCloses tab E s p k t)
   unfolding through gather highest
   closings-are t p zero h l = refl
   closings-are t p (suc n) h l =
@@ -96,14 +96,14 @@ module _ (tab : Table) (F : Fits tab) (E : Schedule) (s : ℕ) (y : s < tab .sig
 
   module _ (low : (v : Value) → IsValue tab v → signalOf v ≡ s → elementOf E v < most tab) where
     reader-kept : (t k l : ℕ) (p : Pass) → t < hyper tab → k < tab .tasks → opens tab k (instance tab k t) ≡ t → Kept tab F E s y t k l p
-        → Kept tab F E s y t (suc k) l (cond (tab .reads s k) (reading tab E s p k t) p)
+        → Kept tab F E s y t (suc k) l (cond (tab .reads s k) (readerOpens tab E s p k t) p)
     reader-kept t k l p h m o K =
         split (tab .reads s k)
         (λ r. rw r (reader-opens tab F E s y t k l p h m o (holds r) K))
         (λ r. rw r (no-reader tab F E s y t k l p h m (λ i e x. not-both (is (tab .reads s k) (x .1)) r) K))
 
     writer-kept : (t k l : ℕ) (p : Pass) → t < hyper tab → k < tab .tasks → opens tab k (instance tab k t) ≡ t → Kept tab F E s y t l k p
-        → Kept tab F E s y t l (suc k) (cond (tab .writes s k) (writing tab E s p k t) p)
+        → Kept tab F E s y t l (suc k) (cond (tab .writes s k) (writerOpens tab E s p k t) p)
     writer-kept t k l p h m o K =
         split (tab .writes s k)
         (λ w. rw w (writer-opens tab F E s y t k l p h m o (holds w) (low (by s k (instance tab k t)) (y, m, holds w, instance-lt tab F k t m h) refl) K))
@@ -116,7 +116,7 @@ module _ (tab : Table) (F : Fits tab) (E : Schedule) (s : ℕ) (y : s < tab .sig
         split (eqb (opens tab k (instance tab k t)) t)
         (λ q. let o = eqb-true (opens tab k (instance tab k t)) t q in
         rw (q, handled-opening tab E s p t k (omega (arith, F .few-tasks)))
-        (writer-kept t k (suc k) (cond (tab .reads s k) (reading tab E s p k t) p) h m o (reader-kept t k k p h m o K)))
+        (writer-kept t k (suc k) (cond (tab .reads s k) (readerOpens tab E s p k t) p) h m o (reader-kept t k k p h m o K)))
         (λ q.
         let none : (i : ℕ) → opens tab k i ≡ t → ⊥ = λ i e. eqb-false (opens tab k (instance tab k t)) t q (subst (λ j. opens tab k j ≡ t) (opens-instance tab F k i t m e) e) in
         rw q (no-writer tab F E s y t k (suc k) p h m (λ i e x. none i e) (no-reader tab F E s y t k k p h m (λ i e x. none i e) K)))

@@ -65,39 +65,35 @@ never = longest
 abbrev pub noneHeld : ℕ → List ℕ
 noneHeld n = replicate n 0
 
+-- a reader opens with its element, and closes at tick c
+abbrev pub reading : Pass → ℕ → ℕ → Pass
+reading p e c = record { right = p .right && eqb e (p .current); held = p .held; current = p .current; reach = max (p .reach) c }
+
+-- a writer opens at tick t with its element
+abbrev pub writing : Pass → ℕ → ℕ → Pass
+writing p e t = record { right = p .right && leb (getD (p .held) e 0) t; held = set (p .held) e never; current = p .current; reach = p .reach }
+
+-- a writer publishes at tick t, and its element is the one that stands
+abbrev pub publishing : Pass → ℕ → ℕ → Pass
+publishing p e t = record { right = p .right; held = set (p .held) (p .current) (max t (p .reach)); current = e; reach = 0 }
+
 module _ (tab : Table) (E : Schedule) (s : ℕ) where
-  -- a reader opens at tick t
-  abbrev pub reading : Pass → ℕ → ℕ → Pass
-  reading p k t = record {
-    right = p .right && eqb (E .reader s k (instance tab k t)) (p .current);
-    held = p .held;
-    current = p .current;
-    reach = max (p .reach) (closes tab k (instance tab k t));
-  }
+  -- task k opens at tick t as a reader, or as a writer
+  abbrev pub readerOpens : Pass → ℕ → ℕ → Pass
+  readerOpens p k t = reading p (E .reader s k (instance tab k t)) (closes tab k (instance tab k t))
 
-  -- a writer opens at tick t
-  abbrev pub writing : Pass → ℕ → ℕ → Pass
-  writing p k t = record {
-    right = p .right && leb (getD (p .held) (E .writer s k (instance tab k t)) 0) t;
-    held = set (p .held) (E .writer s k (instance tab k t)) never;
-    current = p .current;
-    reach = p .reach;
-  }
+  abbrev pub writerOpens : Pass → ℕ → ℕ → Pass
+  writerOpens p k t = writing p (E .writer s k (instance tab k t)) t
 
-  -- a writer whose window ends with tick t publishes at t + 1
-  abbrev pub publishing : Pass → ℕ → ℕ → Pass
-  publishing p k t = record {
-    right = p .right;
-    held = set (p .held) (p .current) (max (suc t) (p .reach));
-    current = E .writer s k (instance tab k t);
-    reach = 0;
-  }
+  -- its window ends with tick t
+  abbrev pub writerCloses : Pass → ℕ → ℕ → Pass
+  writerCloses p k t = publishing p (E .writer s k (instance tab k t)) (suc t)
 
   abbrev pub opened : Pass → ℕ → ℕ → Pass
-  opened p k t = let q = cond (tab .reads s k) (reading p k t) p in cond (tab .writes s k) (writing q k t) q
+  opened p k t = let q = cond (tab .reads s k) (readerOpens p k t) p in cond (tab .writes s k) (writerOpens q k t) q
 
   abbrev pub closed : Pass → ℕ → ℕ → Pass
-  closed p k t = cond (tab .writes s k) (publishing p k t) p
+  closed p k t = cond (tab .writes s k) (writerCloses p k t) p
 
   unfoldable pub handled : Pass → ℕ → Pass
   handled p n = cond (isOpening n) (opened p (taskIn n) (tickIn n)) (closed p (taskIn n) (tickIn n - 1))
