@@ -1,0 +1,185 @@
+// The check of one signal's elements in one pass over the openings and closings of the hyper-period.
+use events::KIND;
+use events::MOST_EVENTS;
+use events::TICK;
+use rules::LONGEST;
+use rules::MOST_SIGNALS;
+use rules::MOST_TASKS;
+use rules::Task;
+use rules::Tasks;
+ghost use Prim.Native.Nat.{_-_, _<_, _≤_, max};
+ghost use mathlib.Core.Bool.{_&&_};
+ghost use mathlib.Core.Path.{_≡_};
+ghost use Rattle.inspect.specs.Pass.{mostElements, passOf, elementAt, Inside, TurnFits, Reads, IsRead, Writes, wroteOf, closedOf, Handles, handledOf, gridTable, Inspects};
+ghost use Rattle.rules.specs.Bytes.{scheduleIn};
+ghost use Rattle.theory.specs.Sweep.{sweep};
+
+pub const MOST_ELEMENTS: usize = 32;
+
+// The bytes of a WI or an RI.
+pub const RECORD: usize = 7;
+
+// What the pass keeps beside the until-ticks: no mistake was met; the element of the value that stands; the last closing of the
+// readers that opened since it was published.
+pub struct Standing {
+    pub right: bool,
+    pub current: usize,
+    pub reach: u32,
+}
+
+// Where the element of the first instance of each task stands, as a reader and as a writer of the signal.
+pub struct Places {
+    pub readers: [usize; MOST_TASKS],
+    pub writers: [usize; MOST_TASKS],
+}
+
+// An opening or closing of a task: its cell of the grid, the tick, and the task's places.
+pub struct Turn {
+    pub cell: u8,
+    pub tick: u32,
+    pub task: Task,
+    pub readers: usize,
+    pub writers: usize,
+}
+
+fn wide(b: u8) -> usize
+    ensures { λ r. ⌜ r ≡ b ⌝ }
+{
+    b as usize
+}
+
+fn larger(a: u32, b: u32) -> u32
+    ensures { λ r. ⌜ r ≡ max a b ⌝ }
+{
+    if a < b { b } else { a }
+}
+
+fn both(a: bool, b: bool) -> bool
+    ensures { λ r. ⌜ r ≡ (a && b) ⌝ }
+{
+    if a { b } else { false }
+}
+
+// The element of instance i.
+fn element_at(schedule: &[u8], first: usize, i: u32) -> usize
+    requires { ⌜ Inside (now schedule) first i ⌝ }
+    ensures { λ r. ⌜ r ≡ elementAt (now (schedule .entry)) first i ⌝ }
+{
+    let at = first + RECORD * i as usize;
+    wide(schedule[at])
+}
+
+// A reader opens.
+fn read_at(schedule: &[u8], p: Standing, x: Turn) -> Standing
+    requires { ⌜ TurnFits x × Reads (now schedule) x ⌝ }
+    ensures { λ r. ⌜ IsRead (now (schedule .entry)) p x r ⌝ }
+{
+    if x.cell % 2 != 1 {
+        return p;
+    }
+    let task = x.task;
+    let element = element_at(schedule, x.readers, x.tick / task.period);
+    Standing {
+        right: both(p.right, element == p.current),
+        current: p.current,
+        reach: larger(p.reach, x.tick - task.start + task.end),
+    }
+}
+
+// A writer opens.
+fn write_at(held: &mut [u32; MOST_ELEMENTS], schedule: &[u8], p: Standing, x: Turn) -> Standing
+    requires { ⌜ TurnFits x × Writes (now schedule) x (x .tick) ⌝ }
+    ensures { λ r. ⌜ passOf (now (held .exit)) r ≡ wroteOf (now (schedule .entry)) (passOf (now (held .entry)) p) x ⌝ }
+{
+    if x.cell / 2 % 2 != 1 {
+        return p;
+    }
+    let task = x.task;
+    let element = element_at(schedule, x.writers, x.tick / task.period);
+    let free = held[element] <= x.tick;
+    held[element] = LONGEST;
+    Standing {
+        right: both(p.right, free),
+        current: p.current,
+        reach: p.reach,
+    }
+}
+
+// A writer publishes.
+fn publish_at(held: &mut [u32; MOST_ELEMENTS], schedule: &[u8], p: Standing, x: Turn) -> Standing
+    requires { ⌜ TurnFits x × (1 ≤ x .tick) × Writes (now schedule) x (x .tick - 1) × (p .current < mostElements) ⌝ }
+    ensures { λ r. ⌜ passOf (now (held .exit)) r ≡ closedOf (now (schedule .entry)) (passOf (now (held .entry)) p) x ⌝ }
+{
+    if x.cell / 2 % 2 != 1 {
+        return p;
+    }
+    let task = x.task;
+    let element = element_at(schedule, x.writers, (x.tick - 1) / task.period);
+    let current = p.current;
+    held[current] = larger(x.tick, p.reach);
+    Standing {
+        right: p.right,
+        current: element,
+        reach: 0,
+    }
+}
+
+// A task opens or closes.
+fn handle(
+    held: &mut [u32; MOST_ELEMENTS],
+    schedule: &[u8],
+    p: Standing,
+    event: u32,
+    x: Turn,
+) -> Standing
+    requires { ⌜ Handles (now schedule) event x × (p .current < mostElements) ⌝ }
+    ensures { λ r. ⌜ passOf (now (held .exit)) r ≡ handledOf (now (schedule .entry)) event (passOf (now (held .entry)) p) x ⌝ }
+{
+    if event / KIND % 2 == 1 {
+        let q = read_at(schedule, p, x);
+        write_at(held, schedule, q, x)
+    } else {
+        publish_at(held, schedule, p, x)
+    }
+}
+
+// One pass over the openings and closings.
+pub fn signal_passes<'a>(
+    events: &'a [u32; MOST_EVENTS],
+    count: usize,
+    tasks: Tasks,
+    grid: &'a [[u8; MOST_SIGNALS]; MOST_TASKS],
+    s: usize,
+    places: Places,
+    schedule: &'a [u8],
+) -> bool
+    requires { ⌜ Inspects tasks (now grid) s (now events) count places (now schedule) ⌝ }
+    ensures { λ r. ⌜ r ≡ sweep (gridTable tasks (now (grid .entry))) (scheduleIn (gridTable tasks (now (grid .entry))) (now (schedule .entry))) s .right ⌝ }
+{
+    let mut held: [u32; MOST_ELEMENTS] = [0; MOST_ELEMENTS];
+    held[0] = LONGEST;
+    let mut p = Standing {
+        right: true,
+        current: 0,
+        reach: 0,
+    };
+    let mut n: usize = 0;
+    while n < count {
+        let event = events[n];
+        let k = (event % KIND) as usize;
+        let cell = grid[k][s];
+        if cell != 0 {
+            let task = tasks.list[k];
+            let x = Turn {
+                cell: cell,
+                tick: event / TICK,
+                task: task,
+                readers: places.readers[k],
+                writers: places.writers[k],
+            };
+            p = handle(&mut held, schedule, p, event, x);
+        }
+        n += 1;
+    }
+    p.right
+}
