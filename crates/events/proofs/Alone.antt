@@ -6,21 +6,21 @@ use native.Mathlib.Omega.{arith}
 use Rattle.rules.specs.Words.{total}
 use Rattle.rules.specs.Windows.{hyper, instances}
 use Rattle.rules.specs.Table.{accessesOf, accesses, uses, mostAccesses, mostUses, Fits}
-use Rattle.rules.specs.Reading.{Grid, tableOf}
+use Rattle.rules.specs.Reading.{Grid, tableOf, noSignals}
 use Rattle.rules.specs.declared.Tasks.{Tasks}
 use Rattle.rules.specs.declared.Signals.{Signals}
 use Rattle.theory.specs.Sweep.{events}
 use Rattle.theory.proofs.Sums.{total-none, total-same}
 use Rattle.events.specs.Order.{tasksTable}
 
--- they have no access
-no-accesses : (tasks : Tasks) → accesses (tasksTable tasks) ≤ mostAccesses
+-- without signals there is no access, whatever the grid
+no-accesses : (tasks : Tasks) (grid : Grid) → accesses (tableOf tasks noSignals grid) ≤ mostAccesses
 unfolding accesses accessesOf total
-no-accesses tasks = omega (arith, total-none (tasks .count))
+no-accesses tasks grid = omega (arith, total-none (tasks .count))
 
-no-uses : (tasks : Tasks) → uses (tasksTable tasks) ≤ mostUses
+no-uses : (tasks : Tasks) (grid : Grid) → uses (tableOf tasks noSignals grid) ≤ mostUses
 unfolding uses accessesOf total
-no-uses tasks = omega (arith, total-same (λ k. 0 * instances (tasksTable tasks) k) (λ k. 0) (tasks .count) (λ k. zero-mul (instances (tasksTable tasks) k)), total-none (tasks .count))
+no-uses tasks grid = omega (arith, total-same (λ k. 0 * instances (tableOf tasks noSignals grid) k) (λ k. 0) (tasks .count) (λ k. zero-mul (instances (tableOf tasks noSignals grid) k)), total-none (tasks .count))
 
 module _ (tasks : Tasks) (signals : Signals) (grid : Grid) where
   pub hyper-alone : hyper (tableOf tasks signals grid) ≡ hyper (tasksTable tasks)
@@ -31,18 +31,19 @@ module _ (tasks : Tasks) (signals : Signals) (grid : Grid) where
   unfolding events hyper
   events-alone = refl
 
-  pub fits-alone : Fits (tableOf tasks signals grid) → Fits (tasksTable tasks)
+  -- so the tasks are accepted with any grid, if no signal is left
+  pub fits-alone : Fits (tableOf tasks signals grid) → (other : Grid) → Fits (tableOf tasks noSignals other)
   unfolding hyper
-  fits-alone F = record {
+  fits-alone F other = record {
     some-task = F .some-task;
     few-tasks = F .few-tasks;
     few-signals = zero-le;
-    few-accesses = no-accesses tasks;
+    few-accesses = no-accesses tasks other;
     window = F .window;
     within = F .within;
     short = F .short;
     hyper-short = F .hyper-short;
     few-instances = F .few-instances;
-    few-uses = no-uses tasks;
+    few-uses = no-uses tasks other;
     single = λ s h. absurd (not-suc-le-zero h);
   }

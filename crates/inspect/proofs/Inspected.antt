@@ -33,7 +33,7 @@ use Rattle.inspect.specs.declared.Turn.{Turn}
 
 -- ---- places
 
-total-within : (f : ℕ → ℕ) (n k : ℕ) → k < n → total f k + f k ≤ total f n
+pub total-within : (f : ℕ → ℕ) (n k : ℕ) → k < n → total f k + f k ≤ total f n
 unfolding total
 total-within f zero k h = absurd (omega arith)
 total-within f (suc n) k h =

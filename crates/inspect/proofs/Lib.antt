@@ -1,1 +1,4 @@
 pub mod Inspected
+pub mod Rows
+pub mod Whole
+pub mod Accepts

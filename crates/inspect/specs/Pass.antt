@@ -5,13 +5,13 @@ use mathlib.Core.List.{List}
 use mathlib.Core.Path.{_≡_}
 use lib.Dec.{T, eqb}
 use lib.ListN.{length, getD}
-use Rattle.rules.specs.Words.{total}
-use Rattle.rules.specs.Windows.{Table, instances}
-use Rattle.rules.specs.Table.{mostSignals, longest, Fits}
+use Rattle.rules.specs.Words.{total, times, every}
+use Rattle.rules.specs.Windows.{Table, instances, hyper}
+use Rattle.rules.specs.Table.{mostTasks, mostSignals, longest, Fits}
 use Rattle.rules.specs.Bytes.{wi, ri, sizeOf, startOf, scheduleIn}
-use Rattle.rules.specs.Reading.{Grid, tableOf, noSignals, writesIn}
+use Rattle.rules.specs.Reading.{Grid, tableOf, noSignals, cellAt, writesIn}
 use Rattle.rules.specs.declared.Tasks.{Tasks}
-use Rattle.theory.specs.Sweep.{Pass, isOpening, reading, writing, publishing}
+use Rattle.theory.specs.Sweep.{Pass, isOpening, reading, writing, publishing, sweep}
 use Rattle.events.specs.Order.{tasksTable, ordered}
 use Rattle.inspect.specs.declared.Places.{Places}
 use Rattle.inspect.specs.declared.Standing.{Standing}
@@ -78,6 +78,36 @@ module _ (bytes : List ℕ) where
     pub opens : isOpening event ≡ true → Reads x × Writes x (x .tick)
     pub closes : isOpening event ≡ false → (1 ≤ x .tick) × Writes x (x .tick - 1)
 
+-- ---- where the elements of a signal stand
+
+-- how many records a task has as a reader (1), or as a writer (2), of a signal
+abbrev pub recordsOf : (cell right instances : ℕ) → ℕ
+recordsOf cell right instances = times (eqb (cell / right % 2) 1) instances
+
+-- the longest schedule, and a place past it and one signal's records
+abbrev pub longestBytes : ℕ
+longestBytes = 28802
+
+abbrev pub farthest : ℕ
+farthest = 65536
+
+module _ (tasks : Tasks) (grid : Grid) (s : ℕ) where
+  -- the records of the tasks below n
+  abbrev pub recordsBelow : ℕ → ℕ → ℕ
+  recordsBelow right n = total (λ k. recordsOf (cellAt grid k s) right (instances (gridTable tasks grid) k)) n
+
+  -- the first n tasks' places, if their records begin at `from`, and the end of those records
+  pub record IsRow (right from n : ℕ) (at : List ℕ) (end : ℕ) : Type 0 where
+    pub placed : (k : ℕ) → k < n → getD at k 0 ≡ from + 7 * recordsBelow right k + 6
+    pub ends : end ≡ from + 7 * recordsBelow right n
+    pub size : length at ≡ mostTasks
+
+  -- each place is that of the first instance's element
+  pub record IsLocated (places : Places) (end : ℕ) : Type 0 where
+    pub readers : (k : ℕ) → k < tasks .count → getD (places .readers) k 0 ≡ startOf (gridTable tasks grid) (ri s k 0) + 6
+    pub writers : (k : ℕ) → k < tasks .count → getD (places .writers) k 0 ≡ startOf (gridTable tasks grid) (wi s k 0) + 6
+    pub ends : end ≡ total (sizeOf (gridTable tasks grid)) (suc s)
+
 -- What the check of signal s starts from: an accepted table's tasks and grid; its openings and closings in their order; where each task's elements
 -- begin; bytes that reach to the end of the signal's records; and elements that are elements.
 pub record Inspects (tasks : Tasks) (grid : Grid) (s : ℕ) (events : List ℕ) (count : ℕ) (places : Places) (bytes : List ℕ) : Type 0 where
@@ -89,3 +119,20 @@ pub record Inspects (tasks : Tasks) (grid : Grid) (s : ℕ) (events : List ℕ) 
   pub writers : (k : ℕ) → k < tasks .count → getD (places .writers) k 0 ≡ startOf (gridTable tasks grid) (wi s k 0) + 6
   pub whole : total (sizeOf (gridTable tasks grid)) (suc s) ≤ length bytes
   pub low : (k i : ℕ) → k < tasks .count → T (writesIn grid s k) → i < instances (gridTable tasks grid) k → scheduleIn (gridTable tasks grid) bytes .writer s k i < mostElements
+
+-- ---- all signals
+
+-- no signal's pass meets a mistake
+unfoldable pub allSwept : Tasks → Grid → List ℕ → ℕ → Bool
+allSwept tasks grid bytes n = every n (λ s. sweep (gridTable tasks grid) (scheduleIn (gridTable tasks grid) bytes) s .right)
+
+-- What the check of all signals starts from.
+pub record InspectsAll (tasks : Tasks) (grid : Grid) (h signals : ℕ) (events : List ℕ) (count : ℕ) (bytes : List ℕ) : Type 0 where
+  pub fits : Fits (gridTable tasks grid)
+  pub period : h ≡ hyper (gridTable tasks grid)
+  pub few : signals ≤ mostSignals
+  pub listed : events ≡ ordered (tasksTable tasks) .list
+  pub counted : count ≡ ordered (tasksTable tasks) .count
+  pub whole : total (sizeOf (gridTable tasks grid)) signals ≤ length bytes
+  pub short : total (sizeOf (gridTable tasks grid)) signals ≤ longestBytes
+  pub low : (s k i : ℕ) → s < signals → k < tasks .count → T (writesIn grid s k) → i < instances (gridTable tasks grid) k → scheduleIn (gridTable tasks grid) bytes .writer s k i < mostElements

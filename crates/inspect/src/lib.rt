@@ -7,17 +7,30 @@ use rules::MOST_SIGNALS;
 use rules::MOST_TASKS;
 use rules::Task;
 use rules::Tasks;
-ghost use Prim.Native.Nat.{_-_, _<_, _≤_, max};
+ghost use Prim.Native.Nat.{_*_, _-_, _<_, _≤_, max};
 ghost use mathlib.Core.Bool.{_&&_};
 ghost use mathlib.Core.Path.{_≡_};
-ghost use Rattle.inspect.specs.Pass.{mostElements, passOf, elementAt, Inside, TurnFits, Reads, IsRead, Writes, wroteOf, closedOf, Handles, handledOf, gridTable, Inspects};
-ghost use Rattle.rules.specs.Bytes.{scheduleIn};
+ghost use Rattle.inspect.specs.Pass.{mostElements, passOf, elementAt, Inside, TurnFits, Reads, IsRead, Writes, wroteOf, closedOf, Handles, handledOf, gridTable, Inspects, recordsOf, farthest, longestBytes, IsRow, IsLocated, InspectsAll, allSwept};
+ghost use Rattle.rules.specs.Words.{total};
+ghost use Rattle.rules.specs.Windows.{hyper};
+ghost use Rattle.rules.specs.Table.{Fits, mostSignals};
+ghost use Rattle.rules.specs.Bytes.{sizeOf, scheduleIn};
 ghost use Rattle.theory.specs.Sweep.{sweep};
 
 pub const MOST_ELEMENTS: usize = 32;
 
 // The bytes of a WI or an RI.
 pub const RECORD: usize = 7;
+
+// The bytes of a BF, and of a WI or an RI before its element.
+pub const COUNT_RECORD: usize = 4;
+
+pub const BEFORE_ELEMENT: usize = 6;
+
+// A cell of the grid divided by this is odd where the task reads, or writes, the signal.
+pub const READ: u8 = 1;
+
+pub const WRITE: u8 = 2;
 
 // What the pass keeps beside the until-ticks: no mistake was met; the element of the value that stands; the last closing of the
 // readers that opened since it was published.
@@ -31,6 +44,18 @@ pub struct Standing {
 pub struct Places {
     pub readers: [usize; MOST_TASKS],
     pub writers: [usize; MOST_TASKS],
+}
+
+// The places of the readers, or of the writers, and where the records after them begin.
+pub struct Row {
+    pub at: [usize; MOST_TASKS],
+    pub end: usize,
+}
+
+// The places of a signal, and where the next signal's records begin.
+pub struct Located {
+    pub places: Places,
+    pub end: usize,
 }
 
 // An opening or closing of a task: its cell of the grid, the tick, and the task's places.
@@ -182,4 +207,90 @@ pub fn signal_passes<'a>(
         n += 1;
     }
     p.right
+}
+
+// The bytes of the records of one task.
+fn records_of(cell: u8, right: u8, instances: u32) -> usize
+    requires { ⌜ 1 ≤ right ⌝ }
+    ensures { λ r. ⌜ r ≡ 7 * recordsOf cell right instances ⌝ }
+{
+    if cell / right % 2 == 1 {
+        return RECORD * instances as usize;
+    }
+    0
+}
+
+// The records of all readers, or of all writers, from a place on.
+fn row_from(
+    tasks: Tasks,
+    h: u32,
+    grid: &[[u8; MOST_SIGNALS]; MOST_TASKS],
+    s: usize,
+    right: u8,
+    from: usize,
+) -> Row
+    requires { ⌜ Fits (gridTable tasks (now grid)) × (h ≡ hyper (gridTable tasks (now grid))) × (s < mostSignals) × (1 ≤ right) × (from ≤ farthest) ⌝ }
+    ensures { λ r. ⌜ IsRow tasks (now (grid .entry)) s right from (tasks .count) (r .at) (r .end) ⌝ }
+{
+    let mut at: [usize; MOST_TASKS] = [0; MOST_TASKS];
+    let mut end = from;
+    let mut k: usize = 0;
+    while k < tasks.count {
+        at[k] = end + BEFORE_ELEMENT;
+        end += records_of(grid[k][s], right, h / tasks.list[k].period);
+        k += 1;
+    }
+    Row { at: at, end: end }
+}
+
+// The places of signal s, whose records begin at `start`.
+fn places_at(
+    tasks: Tasks,
+    h: u32,
+    grid: &[[u8; MOST_SIGNALS]; MOST_TASKS],
+    s: usize,
+    start: usize,
+) -> Located
+    requires { ⌜ Fits (gridTable tasks (now grid)) × (h ≡ hyper (gridTable tasks (now grid))) × (s < mostSignals) × (start ≡ total (sizeOf (gridTable tasks (now grid))) s) × (start ≤ longestBytes) ⌝ }
+    ensures { λ r. ⌜ IsLocated tasks (now (grid .entry)) s (r .places) (r .end) ⌝ }
+{
+    let writers = row_from(tasks, h, grid, s, WRITE, start + COUNT_RECORD);
+    let readers = row_from(tasks, h, grid, s, READ, writers.end);
+    let read = readers.at;
+    let written = writers.at;
+    let places = Places {
+        readers: read,
+        writers: written,
+    };
+    Located {
+        places: places,
+        end: readers.end,
+    }
+}
+
+// Signal by signal, until one does not pass.
+pub fn signals_pass<'a>(
+    events: &'a [u32; MOST_EVENTS],
+    count: usize,
+    tasks: Tasks,
+    h: u32,
+    grid: &'a [[u8; MOST_SIGNALS]; MOST_TASKS],
+    signals: usize,
+    schedule: &'a [u8],
+) -> bool
+    requires { ⌜ InspectsAll tasks (now grid) h signals (now events) count (now schedule) ⌝ }
+    ensures { λ r. ⌜ r ≡ allSwept tasks (now (grid .entry)) (now (schedule .entry)) signals ⌝ }
+{
+    let mut start: usize = 0;
+    let mut s: usize = 0;
+    while s < signals {
+        let located = places_at(tasks, h, grid, s, start);
+        let places = located.places;
+        if !signal_passes(events, count, tasks, grid, s, places, schedule) {
+            return false;
+        }
+        start = located.end;
+        s += 1;
+    }
+    true
 }
