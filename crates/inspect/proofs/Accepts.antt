@@ -51,12 +51,10 @@ module _ (tasks : Tasks) (signals : Signals) (grid : Grid) (bytes : List ℕ) wh
       → list ≡ ordered (tasksTable tasks) .list → count ≡ ordered (tasksTable tasks) .count → InspectsAll tasks grid h (tab .signals) list count bytes
   unfolding hyper writersBelow readersBelow sizeOf startOf scheduleIn scheduleLength
   inspects-all F C w h list count e l n = record {
-    fits = fits-alone tasks signals grid F grid;
+    given = record { fits = fits-alone tasks signals grid F grid; listed = l; counted = n };
     period = e;
     few = F .few-signals;
-    listed = l;
-    counted = n;
     whole = omega arith;
     short = omega (arith, length-is tab, F .few-signals, F .few-uses);
-    low = λ s k i y h t m. omega (arith, C .below (by s k i) (y, h, t, m), C .counted s y);
+    low = λ s y k i h t m. omega (arith, C .below (by s k i) (y, h, t, m), C .counted s y);
   }

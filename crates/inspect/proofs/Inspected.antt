@@ -108,7 +108,7 @@ module _ (tasks : Tasks) (grid : Grid) (s : ℕ) (list : List ℕ) (count : ℕ)
 
   known : (n : ℕ) → IsEvent tab n → Known n
   known n (k, i, h, l, inl e) =
-      let F = I .fits in
+      let F = I .given .fits in
       let d = opening-digits (opens tab k i) k (omega (arith, F .few-tasks)) in
       let z = instance-is tab F k i (opens tab k i) h (omega arith) (omega (arith, F .window k h)) in
       let w : opens tab k i < hyper tab = omega (arith, F .window k h, closes-le tab F k i h l) in
@@ -119,7 +119,7 @@ module _ (tasks : Tasks) (grid : Grid) (s : ℕ) (list : List ℕ) (count : ℕ)
         closes-at = λ q. absurd (not-both (d .0) q);
       })
   known n (k, i, h, l, inr e) =
-      let F = I .fits in
+      let F = I .given .fits in
       let d = closing-digits (closes tab k i) k (omega (arith, F .few-tasks)) in
       rw e (record {
         task = rw (d .1) h;
@@ -129,22 +129,22 @@ module _ (tasks : Tasks) (grid : Grid) (s : ℕ) (list : List ℕ) (count : ℕ)
       })
     where
       at : (c : ℕ) → closes tab k i ≡ c → (t : ℕ) × (c ≡ suc t) × (closes tab k (instance tab k t) ≡ suc t) × (t < hyper tab)
-      at zero q = absurd (omega (arith, I .fits .window k h))
+      at zero q = absurd (omega (arith, I .given .fits .window k h))
       at (suc t) q =
-          let z = instance-is tab (I .fits) k i t h (omega (arith, I .fits .window k h)) (omega arith) in
-          (t, refl, rw z q, omega (arith, closes-le tab (I .fits) k i h l))
+          let z = instance-is tab (I .given .fits) k i t h (omega (arith, I .given .fits .window k h)) (omega arith) in
+          (t, refl, rw z q, omega (arith, closes-le tab (I .given .fits) k i h l))
 
   opening-is : (k t : ℕ) (p : Pass) → k < tab .tasks → opens tab k (instance tab k t) ≡ t → wroteOf bytes (readOf bytes p (turn k t)) (turn k t) ≡ opened tab E s p k t
   unfolding readOf wroteOf scheduleIn writesIn readsIn
   opening-is k t p h o =
       let c : t - tab .start k + tab .end k ≡ closes tab k (instance tab k t) = omega arith in
-      rw (I .readers k h, I .writers k h, ← reader-step tab s k (instance tab k t), ← writer-step tab s k (instance tab k t), c)
+      rw (I .placed .readers k h, I .placed .writers k h, ← reader-step tab s k (instance tab k t), ← writer-step tab s k (instance tab k t), c)
 
   closing-is : (k t : ℕ) (p : Pass) → k < tab .tasks → closedOf bytes p (turn k (suc t)) ≡ closed tab E s p k t
   unfolding closedOf scheduleIn writesIn
   closing-is k t p h =
       let e : suc t - 1 ≡ t = omega arith in
-      rw (e, I .writers k h, ← writer-step tab s k (instance tab k t))
+      rw (e, I .placed .writers k h, ← writer-step tab s k (instance tab k t))
 
   pub handled-is : (n : ℕ) (p : Pass) → IsEvent tab n → handledOf bytes n p (turnAt n) ≡ handled tab E s p n
   unfolding handled handledOf
@@ -162,22 +162,22 @@ module _ (tasks : Tasks) (grid : Grid) (s : ℕ) (list : List ℕ) (count : ℕ)
   writes-in : (k t : ℕ) → k < tab .tasks → t < hyper tab → mayWrite (cellAt grid k s) ≡ true → Inside bytes (getD (places .writers) k 0) (instance tab k t) × (elementAt bytes (getD (places .writers) k 0) (instance tab k t) < mostElements)
   unfolding scheduleIn writesIn
   writes-in k t h l w =
-      let i = instance-lt tab (I .fits) k t h l in
-      let e = I .writers k h in
+      let i = instance-lt tab (I .given .fits) k t h l in
+      let e = I .placed .writers k h in
       let f = writer-step tab s k (instance tab k t) in
       (omega (arith, writer-inside tab s k (instance tab k t) h w i, I .whole), rw (e, ← f) (I .low k (instance tab k t) h (holds w) i))
 
   reads-in : (k t : ℕ) → k < tab .tasks → t < hyper tab → mayRead (cellAt grid k s) ≡ true → Inside bytes (getD (places .readers) k 0) (instance tab k t)
   unfolding readsIn
   reads-in k t h l w =
-      let e = I .readers k h in
+      let e = I .placed .readers k h in
       let f = reader-step tab s k (instance tab k t) in
-      omega (arith, reader-inside tab s k (instance tab k t) h w (instance-lt tab (I .fits) k t h l), I .whole)
+      omega (arith, reader-inside tab s k (instance tab k t) h w (instance-lt tab (I .given .fits) k t h l), I .whole)
 
   pub handles : (n : ℕ) → IsEvent tab n → Handles bytes n (turnAt n)
   handles n x =
       let K = known n x in
-      let F = I .fits in
+      let F = I .given .fits in
       rw (turn-is n) (record {
         fits = record { window = F .window (taskIn n) (K .task); within = F .within (taskIn n) (K .task); short = F .short (taskIn n) (K .task); early = omega (arith, K .tick, F .hyper-short) };
         opens = λ q. let o = K .opens-at q in ((λ r. (omega (arith, o .0), reads-in (taskIn n) (tickIn n) (K .task) (o .1) r)), λ r. writes-in (taskIn n) (tickIn n) (K .task) (o .1) r);
@@ -207,12 +207,12 @@ module _ (tasks : Tasks) (grid : Grid) (s : ℕ) (list : List ℕ) (count : ℕ)
 
   event-at : (n : ℕ) → n < count → (n < length (events tab)) × (getD list n 0 ≡ getD (events tab) n 0)
   event-at n h =
-      let c : count ≡ length (events tab) = I .counted ∙ ap length same-events in
+      let c : count ≡ length (events tab) = I .given .counted ∙ ap length same-events in
       let l : n < length (events tab) = omega arith in
-      (l, rw (I .listed, same-events) (List·getD-append (events tab) _ 0 n l))
+      (l, rw (I .given .listed, same-events) (List·getD-append (events tab) _ 0 n l))
 
   pub is-event : (n : ℕ) → n < count → IsEvent tab (getD list n 0)
-  is-event n h = let e = event-at n h in rw (e .1) (all-at (IsEvent tab) 0 (events tab) (events-all tab (I .fits)) n (e .0))
+  is-event n h = let e = event-at n h in rw (e .1) (all-at (IsEvent tab) 0 (events tab) (events-all tab (I .given .fits)) n (e .0))
 
   pub pass-turn : (n : ℕ) (p : Pass) → n < count → through (handled tab E s) p (drop n (events tab)) ≡ through (handled tab E s) (handled tab E s p (getD list n 0)) (drop (n + 1) (events tab))
   unfolding through
@@ -220,7 +220,7 @@ module _ (tasks : Tasks) (grid : Grid) (s : ℕ) (list : List ℕ) (count : ℕ)
 
   pub pass-ends : (n : ℕ) (p : Pass) → n ≡ count → through (handled tab E s) p (drop n (events tab)) ≡ p
   unfolding through
-  pass-ends n p h = rw (h ∙ I .counted ∙ ap length same-events, drop-length (events tab))
+  pass-ends n p h = rw (h ∙ I .given .counted ∙ ap length same-events, drop-length (events tab))
 
   -- one turn of the loop
   abbrev pub Left : ℕ → List ℕ → Standing → Type 0
@@ -245,4 +245,4 @@ module _ (tasks : Tasks) (grid : Grid) (s : ℕ) (list : List ℕ) (count : ℕ)
   pass-right n held p h l = ap (λ (q : Pass). q .right) (sym (pass-ends n (passOf held p) h) ∙ l .1)
 
   pub count-within : count ≤ mostEvents
-  count-within = omega (arith, I .counted, ap length same-events, few-events tab (I .fits) mostTasks (mostTasks + hyper tab * (2 * mostTasks)) (events tab) (events-up tab (I .fits)) (events-all tab (I .fits)), I .fits .few-instances)
+  count-within = omega (arith, I .given .counted, ap length same-events, few-events tab (I .given .fits) mostTasks (mostTasks + hyper tab * (2 * mostTasks)) (events tab) (events-up tab (I .given .fits)) (events-all tab (I .given .fits)), I .given .fits .few-instances)

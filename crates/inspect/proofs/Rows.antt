@@ -2,7 +2,7 @@
 use mathlib.Core.Bool.{Bool, true, false}
 use mathlib.Core.List.{List}
 use mathlib.Core.Path.{_≡_, ap, _∙_}
-use Prim.Native.Nat.{ℕ, _+_, _*_, _/_, _%_, _≤_, _<_}
+use Prim.Native.Nat.{ℕ, suc, _+_, _*_, _/_, _%_, _≤_, _<_}
 use native.Mathlib.Nat.{div-one, not-suc-le-zero}
 use native.Mathlib.Numerals.{add-one}
 use native.Mathlib.Omega.{arith}
@@ -18,7 +18,7 @@ use Rattle.rules.specs.Reading.{Grid, cellAt, taskOf, writesIn, readsIn}
 use Rattle.rules.specs.declared.Tasks.{Tasks}
 use Rattle.theory.proofs.Tests.{split}
 use Rattle.theory.proofs.Sums.{total-mono, total-same}
-use Rattle.inspect.specs.Pass.{gridTable, recordsOf, recordsBelow, IsRow, IsLocated}
+use Rattle.inspect.specs.Pass.{gridTable, recordsOf, recordsBelow, IsRow, ArePlaces}
 use Rattle.inspect.proofs.Inspected.{total-within}
 
 module _ (tasks : Tasks) (grid : Grid) (s right from : ℕ) where
@@ -57,13 +57,12 @@ module _ (tasks : Tasks) (grid : Grid) (s right from : ℕ) where
 
 module _ (tasks : Tasks) (grid : Grid) (s start middle end : ℕ) (w r : List ℕ) where
   pub located : start ≡ total (sizeOf (gridTable tasks grid)) s → IsRow tasks grid s 2 (start + 4) (tasks .count) w middle → IsRow tasks grid s 1 middle (tasks .count) r end
-      → IsLocated tasks grid s (record { readers = r; writers = w }) end
+      → ArePlaces tasks grid s (record { readers = r; writers = w }) × (end ≡ total (sizeOf (gridTable tasks grid)) (suc s))
   unfolding startOf sizeOf writersBelow readersBelow writesIn readsIn total
-  located e W R = record {
-    readers = λ k h. omega (arith, R .placed k h, W .ends, same k);
-    writers = λ k h. omega (arith, W .placed k h);
-    ends = omega (arith, R .ends, W .ends, same (tasks .count));
-  }
+  located e W R = (
+    record { readers = λ k h. omega (arith, R .placed k h, W .ends, same k); writers = λ k h. omega (arith, W .placed k h) },
+    omega (arith, R .ends, W .ends, same (tasks .count)),
+  )
     where
       same : (n : ℕ) → recordsBelow tasks grid s 1 n ≡ total (λ k. times (eqb (cellAt grid k s % 2) 1) (instances (gridTable tasks grid) k)) n
       same n = total-same _ _ n (λ k. ap (λ x. times (eqb (x % 2) 1) (instances (gridTable tasks grid) k)) (div-one (cellAt grid k s)))

@@ -1,10 +1,11 @@
 -- The check of all signals, one after the other. Assumes nothing.
-use mathlib.Core.Bool.{true, false}
+use mathlib.Core.Bool.{Bool, true, false, not}
 use mathlib.Core.List.{List}
-use mathlib.Core.Path.{_≡_, refl, sym}
+use mathlib.Core.Path.{_≡_, refl, sym, _∙_}
 use Prim.Native.Nat.{ℕ, _+_, _≤_, _<_}
 use native.Mathlib.Numerals.{add-one}
 use native.Mathlib.Omega.{arith}
+use borrow.Author.Tests.{not-true, not-false}
 use Rattle.rules.specs.Words.{total, every}
 use Rattle.rules.specs.Bytes.{sizeOf, scheduleIn}
 use Rattle.rules.specs.Reading.{Grid}
@@ -12,23 +13,20 @@ use Rattle.rules.specs.declared.Tasks.{Tasks}
 use Rattle.theory.specs.Sweep.{sweep}
 use Rattle.theory.proofs.Tests.{and-is, no-test, not-both}
 use Rattle.theory.proofs.Check.{every-at}
-use Rattle.inspect.specs.Pass.{gridTable, longestBytes, IsLocated, Inspects, allSwept, InspectsAll}
+use Rattle.inspect.specs.Pass.{gridTable, longestBytes, ArePlaces, Inspects, allSwept, InspectsAll}
 use Rattle.inspect.specs.declared.Places.{Places}
 use Rattle.inspect.proofs.Inspected.{total-within}
 
 module _ (tasks : Tasks) (grid : Grid) (h signals : ℕ) (list : List ℕ) (count : ℕ) (bytes : List ℕ) (A : InspectsAll tasks grid h signals list count bytes) where
   -- what is known of all is known of one
-  pub one : (s end : ℕ) (places : Places) → s < signals → IsLocated tasks grid s places end → Inspects tasks grid s list count places bytes
+  pub one : (s : ℕ) (places : Places) → s < signals → ArePlaces tasks grid s places → Inspects tasks grid s list count places bytes
   unfolding total
-  one s end places l L = record {
-    fits = A .fits;
+  one s places l L = record {
+    given = A .given;
     signal = omega (arith, A .few);
-    listed = A .listed;
-    counted = A .counted;
-    readers = L .readers;
-    writers = L .writers;
+    placed = L;
     whole = omega (arith, A .whole, total-within (sizeOf (gridTable tasks grid)) signals s l);
-    low = λ k i. A .low s k i l;
+    low = A .low s l;
   }
 
   pub start-low : (s : ℕ) → s < signals → total (sizeOf (gridTable tasks grid)) s ≤ longestBytes
@@ -39,10 +37,12 @@ module _ (tasks : Tasks) (grid : Grid) (bytes : List ℕ) where
   unfolding allSwept every
   swept-none = refl
 
-  pub swept-more : (s : ℕ) → allSwept tasks grid bytes s ≡ true → sweep (gridTable tasks grid) (scheduleIn (gridTable tasks grid) bytes) s .right ≡ true → allSwept tasks grid bytes (s + 1) ≡ true
-  unfolding allSwept every
-  swept-more s a b = rw (add-one s) (and-is b a)
+  -- what the pass over signal s said
+  module _ (s : ℕ) (r : Bool) (e : r ≡ sweep (gridTable tasks grid) (scheduleIn (gridTable tasks grid) bytes) s .right) where
+    pub swept-more : not r ≡ false → allSwept tasks grid bytes s ≡ true → allSwept tasks grid bytes (s + 1) ≡ true
+    unfolding allSwept every
+    swept-more q a = rw (add-one s) (and-is (sym e ∙ not-false r q) a)
 
-  pub swept-fails : (signals s : ℕ) → s < signals → sweep (gridTable tasks grid) (scheduleIn (gridTable tasks grid) bytes) s .right ≡ false → false ≡ allSwept tasks grid bytes signals
-  unfolding allSwept
-  swept-fails signals s l e = sym (no-test _ (λ q. not-both (every-at signals _ q s l) e))
+    pub swept-fails : not r ≡ true → (signals : ℕ) → s < signals → false ≡ allSwept tasks grid bytes signals
+    unfolding allSwept
+    swept-fails q signals l = sym (no-test _ (λ a. not-both (every-at signals _ a s l) (sym e ∙ not-true r q)))

@@ -103,36 +103,39 @@ module _ (tasks : Tasks) (grid : Grid) (s : ℕ) where
     pub size : length at ≡ mostTasks
 
   -- each place is that of the first instance's element
-  pub record IsLocated (places : Places) (end : ℕ) : Type 0 where
+  pub record ArePlaces (places : Places) : Type 0 where
     pub readers : (k : ℕ) → k < tasks .count → getD (places .readers) k 0 ≡ startOf (gridTable tasks grid) (ri s k 0) + 6
     pub writers : (k : ℕ) → k < tasks .count → getD (places .writers) k 0 ≡ startOf (gridTable tasks grid) (wi s k 0) + 6
-    pub ends : end ≡ total (sizeOf (gridTable tasks grid)) (suc s)
 
--- What the check of signal s starts from: an accepted table's tasks and grid; its openings and closings in their order; where each task's elements
--- begin; bytes that reach to the end of the signal's records; and elements that are elements.
-pub record Inspects (tasks : Tasks) (grid : Grid) (s : ℕ) (events : List ℕ) (count : ℕ) (places : Places) (bytes : List ℕ) : Type 0 where
+  -- the elements of its writers are elements
+  abbrev pub Low : List ℕ → Type 0
+  Low bytes = (k i : ℕ) → k < tasks .count → T (writesIn grid s k) → i < instances (gridTable tasks grid) k → scheduleIn (gridTable tasks grid) bytes .writer s k i < mostElements
+
+-- ---- what a check starts from
+
+-- an accepted table's tasks and grid, and its openings and closings in their order
+pub record Given (tasks : Tasks) (grid : Grid) (events : List ℕ) (count : ℕ) : Type 0 where
   pub fits : Fits (gridTable tasks grid)
-  pub signal : s < mostSignals
   pub listed : events ≡ ordered (tasksTable tasks) .list
   pub counted : count ≡ ordered (tasksTable tasks) .count
-  pub readers : (k : ℕ) → k < tasks .count → getD (places .readers) k 0 ≡ startOf (gridTable tasks grid) (ri s k 0) + 6
-  pub writers : (k : ℕ) → k < tasks .count → getD (places .writers) k 0 ≡ startOf (gridTable tasks grid) (wi s k 0) + 6
-  pub whole : total (sizeOf (gridTable tasks grid)) (suc s) ≤ length bytes
-  pub low : (k i : ℕ) → k < tasks .count → T (writesIn grid s k) → i < instances (gridTable tasks grid) k → scheduleIn (gridTable tasks grid) bytes .writer s k i < mostElements
 
--- ---- all signals
+-- for signal s also its places, and bytes that reach to the end of its records
+pub record Inspects (tasks : Tasks) (grid : Grid) (s : ℕ) (events : List ℕ) (count : ℕ) (places : Places) (bytes : List ℕ) : Type 0 where
+  pub given : Given tasks grid events count
+  pub signal : s < mostSignals
+  pub placed : ArePlaces tasks grid s places
+  pub whole : total (sizeOf (gridTable tasks grid)) (suc s) ≤ length bytes
+  pub low : Low tasks grid s bytes
+
+-- for all signals the hyper-period, and bytes that reach to the end of their records
+pub record InspectsAll (tasks : Tasks) (grid : Grid) (h signals : ℕ) (events : List ℕ) (count : ℕ) (bytes : List ℕ) : Type 0 where
+  pub given : Given tasks grid events count
+  pub period : h ≡ hyper (gridTable tasks grid)
+  pub few : signals ≤ mostSignals
+  pub whole : total (sizeOf (gridTable tasks grid)) signals ≤ length bytes
+  pub short : total (sizeOf (gridTable tasks grid)) signals ≤ longestBytes
+  pub low : (s : ℕ) → s < signals → Low tasks grid s bytes
 
 -- no signal's pass meets a mistake
 unfoldable pub allSwept : Tasks → Grid → List ℕ → ℕ → Bool
 allSwept tasks grid bytes n = every n (λ s. sweep (gridTable tasks grid) (scheduleIn (gridTable tasks grid) bytes) s .right)
-
--- What the check of all signals starts from.
-pub record InspectsAll (tasks : Tasks) (grid : Grid) (h signals : ℕ) (events : List ℕ) (count : ℕ) (bytes : List ℕ) : Type 0 where
-  pub fits : Fits (gridTable tasks grid)
-  pub period : h ≡ hyper (gridTable tasks grid)
-  pub few : signals ≤ mostSignals
-  pub listed : events ≡ ordered (tasksTable tasks) .list
-  pub counted : count ≡ ordered (tasksTable tasks) .count
-  pub whole : total (sizeOf (gridTable tasks grid)) signals ≤ length bytes
-  pub short : total (sizeOf (gridTable tasks grid)) signals ≤ longestBytes
-  pub low : (s k i : ℕ) → s < signals → k < tasks .count → T (writesIn grid s k) → i < instances (gridTable tasks grid) k → scheduleIn (gridTable tasks grid) bytes .writer s k i < mostElements

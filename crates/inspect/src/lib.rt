@@ -7,10 +7,10 @@ use rules::MOST_SIGNALS;
 use rules::MOST_TASKS;
 use rules::Task;
 use rules::Tasks;
-ghost use Prim.Native.Nat.{_*_, _-_, _<_, _≤_, max};
+ghost use Prim.Native.Nat.{suc, _*_, _-_, _<_, _≤_, max};
 ghost use mathlib.Core.Bool.{_&&_};
 ghost use mathlib.Core.Path.{_≡_};
-ghost use Rattle.inspect.specs.Pass.{mostElements, passOf, elementAt, Inside, TurnFits, Reads, IsRead, Writes, wroteOf, closedOf, Handles, handledOf, gridTable, Inspects, recordsOf, farthest, longestBytes, IsRow, IsLocated, InspectsAll, allSwept};
+ghost use Rattle.inspect.specs.Pass.{mostElements, passOf, elementAt, Inside, TurnFits, Reads, IsRead, Writes, wroteOf, closedOf, Handles, handledOf, gridTable, Inspects, recordsOf, farthest, longestBytes, IsRow, ArePlaces, InspectsAll, allSwept};
 ghost use Rattle.rules.specs.Words.{total};
 ghost use Rattle.rules.specs.Windows.{hyper};
 ghost use Rattle.rules.specs.Table.{Fits, mostSignals};
@@ -252,7 +252,7 @@ fn places_at(
     start: usize,
 ) -> Located
     requires { ⌜ Fits (gridTable tasks (now grid)) × (h ≡ hyper (gridTable tasks (now grid))) × (s < mostSignals) × (start ≡ total (sizeOf (gridTable tasks (now grid))) s) × (start ≤ longestBytes) ⌝ }
-    ensures { λ r. ⌜ IsLocated tasks (now (grid .entry)) s (r .places) (r .end) ⌝ }
+    ensures { λ r. ⌜ ArePlaces tasks (now (grid .entry)) s (r .places) × (r .end ≡ total (sizeOf (gridTable tasks (now (grid .entry)))) (suc s)) ⌝ }
 {
     let writers = row_from(tasks, h, grid, s, WRITE, start + COUNT_RECORD);
     let readers = row_from(tasks, h, grid, s, READ, writers.end);

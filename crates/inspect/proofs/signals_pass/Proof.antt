@@ -4,7 +4,6 @@ use mathlib.Core.Bool.{true}
 use mathlib.Core.Path.{_≡_, refl, sym, ap, _∙_}
 use native.Mathlib.Numerals.{add-one}
 use native.Mathlib.Omega.{arith}
-use borrow.Author.Tests.{not-true, not-false}
 use Rattle.rules.specs.Words.{total}
 use Rattle.rules.specs.Bytes.{sizeOf}
 use Rattle.inspect.specs.Pass.{gridTable, allSwept}
@@ -26,18 +25,18 @@ places-at-requires : tie.Need-places-at-requires Inv-loop μ-loop
 places-at-requires c κs =
     let A = c .before .before .before .pre in
     let l = c .before .loop .inv in
-    (A .fits, A .period, omega (arith, A .few), l .1, omega (arith, l .1, start-low _ _ _ _ _ _ _ A _ (c .loop-test .taken)))
+    (A .given .fits, A .period, omega (arith, A .few), l .1, omega (arith, l .1, start-low _ _ _ _ _ _ _ A _ (c .loop-test .taken)))
 
 signal-passes-requires : tie.Need-signal-passes-requires Inv-loop μ-loop
-signal-passes-requires c κs = one _ _ _ _ _ _ _ (c .before .before .before .before .before .pre) _ _ _ (c .before .before .loop-test .taken) (c .before .places-at .ensures)
+signal-passes-requires c κs = one _ _ _ _ _ _ _ (c .before .before .before .before .before .pre) _ _ (c .before .before .loop-test .taken) (c .before .places-at .ensures .0)
 
 returns : tie.Need-returns Inv-loop μ-loop
-returns c = swept-fails _ _ _ _ _ (c .before .before .before .before .loop-test .taken) (sym (c .before .signal-passes .ensures) ∙ not-true _ (c .if1 .taken))
+returns c = swept-fails _ _ _ _ _ (c .before .signal-passes .ensures) (c .if1 .taken) _ (c .before .before .before .before .loop-test .taken)
 
 loop-again : tie.Need-loop-again Inv-loop μ-loop
 loop-again c =
     let l = c .before .before .before .before .before .loop .inv in
-    (omega arith, c .before .before .before .places-at .ensures .ends ∙ ap (total _) (sym (add-one _)), swept-more _ _ _ _ (l .2) (sym (c .before .signal-passes .ensures) ∙ not-false _ (c .if1 .left)))
+    (omega arith, c .before .before .before .places-at .ensures .1 ∙ ap (total _) (sym (add-one _)), swept-more _ _ _ _ _ (c .before .signal-passes .ensures) (c .if1 .left) (l .2))
 
 returns-2 : tie.Need-returns-2 Inv-loop μ-loop
 returns-2 c =
