@@ -3,13 +3,14 @@ use mathlib.Core.Bool.{Bool, true, false, cond}
 use mathlib.Core.List.{List}
 use mathlib.Core.Logic.{_⊎_, inl, inr, ⊎-elim}
 use mathlib.Core.Path.{_≡_, refl, sym, ap, _∙_}
-use Prim.Native.Nat.{ℕ, zero, suc, _+_, _*_, _-_, _/_, _≤_, _<_}
-use native.Mathlib.Nat.{div-div-eq-div-mul}
+use Prim.Native.Nat.{ℕ, zero, suc, _+_, _*_, _-_, _/_, _%_, _≤_, _<_}
+use native.Mathlib.Nat.{div-div-eq-div-mul, mod-lt, not-suc-le-zero}
 use native.Mathlib.Numerals.{add-one}
 use native.Mathlib.Omega.{arith}
+use lib.Arith.{mod-mul}
 use lib.Dec.{eqb}
-use lib.ListN.{length, getD, set, drop, List·getD-append}
-use lib.Seq.{drop-cons, drop-length}
+use lib.ListN.{length, getD, set, drop, List·getD-append, length-set}
+use lib.Seq.{drop-cons, drop-length, getD-set-same, getD-set-other}
 use borrow.Author.Tests.{eqb-true, eqb-false}
 use Rattle.rules.specs.Words.{total, times}
 use Rattle.rules.specs.Windows.{Table, opens, closes, instance, instances, hyper}
@@ -26,7 +27,7 @@ use Rattle.theory.proofs.Lists.{all-at}
 use Rattle.theory.proofs.Events.{IsEvent, events-all, events-up, few-events}
 use Rattle.events.specs.Order.{tasksTable, mostEvents}
 use Rattle.events.proofs.Alone.{events-alone}
-use Rattle.inspect.specs.Pass.{gridTable, passOf, mayRead, mayWrite, mostElements, elementAt, Inside, Writes, readOf, wroteOf, closedOf, handledOf, Handles, Inspects}
+use Rattle.inspect.specs.Pass.{gridTable, passOf, mayRead, mayWrite, mostElements, elementAt, Inside, Writes, readOf, wroteOf, closedOf, handledOf, Handles, Inspects, AreActs}
 use Rattle.inspect.specs.declared.Places.{Places}
 use Rattle.inspect.specs.declared.Standing.{Standing}
 use Rattle.inspect.specs.declared.Turn.{Turn}
@@ -65,6 +66,30 @@ module _ (tab : Table) (s : ℕ) where
       let a = total-within (λ k. times (tab .reads s k) (instances tab k)) (tab .tasks) k h in
       let b : times (tab .reads s k) (instances tab k) ≡ instances tab k = rw w in
       omega arith
+
+-- ---- what is nothing for the signal
+
+module _ (grid : Grid) (s : ℕ) where
+  pub acts-start : (acts : List ℕ) → length acts ≡ 2 * mostTasks → AreActs grid s 0 acts
+  acts-start acts e = record { closing = λ k h. absurd (not-suc-le-zero h); opening = λ k h. absurd (not-suc-le-zero h); size = e }
+
+  pub acts-more : (k : ℕ) (acts : List ℕ) → k < mostTasks → AreActs grid s k acts → AreActs grid s (k + 1) (set (set acts k (cellAt grid k s / 2)) (mostTasks + k) (cellAt grid k s))
+  acts-more k acts h A =
+      let n = length-set acts k (cellAt grid k s / 2) in
+      record {
+        closing = λ j l. let far : ¬ (j ≡ mostTasks + k) = λ e. let z : ⊥ = omega arith in z in
+            rw (getD-set-other (set acts k (cellAt grid k s / 2)) (mostTasks + k) j (cellAt grid k s) 0 far)
+            (split (eqb j k)
+            (λ q. rw (eqb-true j k q, getD-set-same acts k (cellAt grid k s / 2) 0 (omega (arith, A .size))))
+            (λ q. let z = eqb-false j k q in rw (getD-set-other acts k j (cellAt grid k s / 2) 0 z) (A .closing j (omega arith))));
+        opening = λ j l. split (eqb j k)
+            (λ q. rw (eqb-true j k q, getD-set-same (set acts k (cellAt grid k s / 2)) (mostTasks + k) (cellAt grid k s) 0 (omega (arith, A .size))))
+            (λ q. let z = eqb-false j k q in
+            let far : ¬ (mostTasks + j ≡ mostTasks + k) = λ e. z (omega arith) in
+            let low : ¬ (mostTasks + j ≡ k) = λ e. let w : ⊥ = omega arith in w in
+            rw (getD-set-other (set acts k (cellAt grid k s / 2)) (mostTasks + k) (mostTasks + j) (cellAt grid k s) 0 far, getD-set-other acts k (mostTasks + j) (cellAt grid k s / 2) 0 low) (A .opening j (omega arith)));
+        size = length-set (set acts k (cellAt grid k s / 2)) (mostTasks + k) (cellAt grid k s) ∙ n ∙ A .size;
+      }
 
 -- ---- an opening or closing
 
@@ -195,10 +220,22 @@ module _ (tasks : Tasks) (grid : Grid) (s : ℕ) (list : List ℕ) (count : ℕ)
       (λ q. rw q (rw (opening-current bytes p (turnAt n)) h))
       (λ q. rw q (closing-current bytes p (turnAt n) h (H .closes q .1))))
 
-  -- a task without access to the signal changes nothing
-  pub skipped : (n : ℕ) (p : Pass) → IsEvent tab n → cellAt grid (taskIn n) s ≡ 0 → handled tab E s p n ≡ p
+  -- what is nothing for the signal changes nothing
+  pub skipped : (n : ℕ) (p : Pass) (acts : List ℕ) → IsEvent tab n → AreActs grid s (tasks .count) acts → getD acts (n % (2 * mostTasks)) 0 ≡ 0 → handled tab E s p n ≡ p
   unfolding handledOf readOf wroteOf closedOf
-  skipped n p x e = sym (handled-is n p x) ∙ split (isOpening n) (λ q. rw (q, e)) (λ q. rw (q, e))
+  skipped n p acts x A e =
+      let K = known n x in
+      let two : 0 < 2 = omega arith in
+      let m : n % (2 * mostTasks) ≡ n / mostTasks % 2 * mostTasks + taskIn n = mod-mul n {m = 2} {c = mostTasks} (omega arith) (omega arith) in
+      sym (handled-is n p x) ∙ split (isOpening n)
+      (λ q.
+      let z : n % (2 * mostTasks) ≡ mostTasks + taskIn n = omega (arith, eqb-true (n / mostTasks % 2) 1 q) in
+      let c : cellAt grid (taskIn n) s ≡ 0 = sym (A .opening (taskIn n) (K .task)) ∙ ap (λ y. getD acts y 0) (sym z) ∙ e in
+      rw (q, c))
+      (λ q.
+      let z : n % (2 * mostTasks) ≡ taskIn n = omega (arith, eqb-false (n / mostTasks % 2) 1 q, mod-lt (n / mostTasks) two) in
+      let c : cellAt grid (taskIn n) s / 2 ≡ 0 = sym (A .closing (taskIn n) (K .task)) ∙ ap (λ y. getD acts y 0) (sym z) ∙ e in
+      rw (q, c))
 
   -- ---- one after the other
 
@@ -230,13 +267,13 @@ module _ (tasks : Tasks) (grid : Grid) (s : ℕ) (list : List ℕ) (count : ℕ)
   unfolding sweep
   pass-starts = (omega arith, refl)
 
-  pub pass-next : (n : ℕ) (held kept : List ℕ) (p r : Standing) → n < count → Left n held p
-      → (passOf kept r ≡ handledOf bytes (getD list n 0) (passOf held p) (turnAt (getD list n 0))) ⊎ ((cellAt grid (taskIn (getD list n 0)) s ≡ 0) × (passOf kept r ≡ passOf held p))
+  pub pass-next : (n : ℕ) (held kept acts : List ℕ) (p r : Standing) → n < count → AreActs grid s (tasks .count) acts → Left n held p
+      → (passOf kept r ≡ handledOf bytes (getD list n 0) (passOf held p) (turnAt (getD list n 0))) ⊎ ((getD acts (getD list n 0 % (2 * mostTasks)) 0 ≡ 0) × (passOf kept r ≡ passOf held p))
       → Left (n + 1) kept r
-  pass-next n held kept p r h l c =
+  pass-next n held kept acts p r h A l c =
       let x = is-event n h in
       let e : passOf kept r ≡ handled tab E s (passOf held p) (getD list n 0) =
-      ⊎-elim (λ q. q ∙ handled-is (getD list n 0) (passOf held p) x) (λ q. q .1 ∙ sym (skipped (getD list n 0) (passOf held p) x (q .0))) c in (
+      ⊎-elim (λ q. q ∙ handled-is (getD list n 0) (passOf held p) x) (λ q. q .1 ∙ sym (skipped (getD list n 0) (passOf held p) acts x A (q .0))) c in (
         omega (arith, ap (λ (q : Pass). q .current) e, current-low (getD list n 0) (passOf held p) x (l .0)),
         ap (λ q. through (handled tab E s) q (drop (n + 1) (events tab))) e ∙ sym (pass-turn n (passOf held p) h) ∙ l .1,
       )

@@ -78,6 +78,12 @@ module _ (bytes : List ℕ) where
     pub opens : isOpening event ≡ true → Reads x × Writes x (x .tick)
     pub closes : isOpening event ≡ false → (1 ≤ x .tick) × Writes x (x .tick - 1)
 
+-- for the first n tasks what a closing, and what an opening, is for signal s
+pub record AreActs (grid : Grid) (s n : ℕ) (acts : List ℕ) : Type 0 where
+  pub closing : (k : ℕ) → k < n → getD acts k 0 ≡ cellAt grid k s / 2
+  pub opening : (k : ℕ) → k < n → getD acts (mostTasks + k) 0 ≡ cellAt grid k s
+  pub size : length acts ≡ 2 * mostTasks
+
 -- ---- where the elements of a signal stand
 
 -- how many records a task has as a reader (1), or as a writer (2), of a signal

@@ -10,14 +10,17 @@ use rules::Tasks;
 ghost use Prim.Native.Nat.{suc, _*_, _-_, _<_, _≤_, max};
 ghost use mathlib.Core.Bool.{_&&_};
 ghost use mathlib.Core.Path.{_≡_};
-ghost use Rattle.inspect.specs.Pass.{mostElements, passOf, elementAt, Inside, TurnFits, Reads, IsRead, Writes, wroteOf, closedOf, Handles, handledOf, gridTable, Inspects, recordsOf, farthest, longestBytes, IsRow, ArePlaces, InspectsAll, allSwept};
+ghost use Rattle.inspect.specs.Pass.{mostElements, passOf, elementAt, Inside, TurnFits, Reads, IsRead, Writes, wroteOf, closedOf, Handles, handledOf, gridTable, Inspects, recordsOf, farthest, longestBytes, IsRow, ArePlaces, InspectsAll, allSwept, AreActs};
 ghost use Rattle.rules.specs.Words.{total};
 ghost use Rattle.rules.specs.Windows.{hyper};
-ghost use Rattle.rules.specs.Table.{Fits, mostSignals};
+ghost use Rattle.rules.specs.Table.{Fits, mostTasks, mostSignals};
 ghost use Rattle.rules.specs.Bytes.{sizeOf, scheduleIn};
 ghost use Rattle.theory.specs.Sweep.{sweep};
 
 pub const MOST_ELEMENTS: usize = 32;
+
+// A closing and an opening for each task.
+pub const KINDS: usize = 2 * MOST_TASKS;
 
 // The bytes of a WI or an RI.
 pub const RECORD: usize = 7;
@@ -168,6 +171,22 @@ fn handle(
     }
 }
 
+// For each task what its closing, and its opening, is for the signal: 0 where it is nothing.
+fn acts_of(count: usize, grid: &[[u8; MOST_SIGNALS]; MOST_TASKS], s: usize) -> [u8; KINDS]
+    requires { ⌜ (count ≤ mostTasks) × (s < mostSignals) ⌝ }
+    ensures { λ r. ⌜ AreActs (now (grid .entry)) s count r ⌝ }
+{
+    let mut acts: [u8; KINDS] = [0; KINDS];
+    let mut k: usize = 0;
+    while k < count {
+        let cell = grid[k][s];
+        acts[k] = cell / 2;
+        acts[MOST_TASKS + k] = cell;
+        k += 1;
+    }
+    acts
+}
+
 // One pass over the openings and closings.
 pub fn signal_passes<'a>(
     events: &'a [u32; MOST_EVENTS],
@@ -181,6 +200,7 @@ pub fn signal_passes<'a>(
     requires { ⌜ Inspects tasks (now grid) s (now events) count places (now schedule) ⌝ }
     ensures { λ r. ⌜ r ≡ sweep (gridTable tasks (now (grid .entry))) (scheduleIn (gridTable tasks (now (grid .entry))) (now (schedule .entry))) s .right ⌝ }
 {
+    let acts = acts_of(tasks.count, grid, s);
     let mut held: [u32; MOST_ELEMENTS] = [0; MOST_ELEMENTS];
     held[0] = LONGEST;
     let mut p = Standing {
@@ -191,9 +211,10 @@ pub fn signal_passes<'a>(
     let mut n: usize = 0;
     while n < count {
         let event = events[n];
-        let k = (event % KIND) as usize;
-        let cell = grid[k][s];
-        if cell != 0 {
+        let act = acts[(event % TICK) as usize];
+        if act != 0 {
+            let k = (event % KIND) as usize;
+            let cell = grid[k][s];
             let task = tasks.list[k];
             let x = Turn {
                 cell: cell,
