@@ -52,20 +52,20 @@ module _ (tab : Table) (s : ℕ) where
   unfolding startOf
   reader-step k i = omega arith
 
-  -- and each stands among the records of its signal
+  -- and each stands among those of its signal
+  among : (allowed : ℕ → Bool) (k i : ℕ) → k < tab .tasks → allowed k ≡ true → i < instances tab k
+      → total (λ k. times (allowed k) (instances tab k)) k + i < total (λ k. times (allowed k) (instances tab k)) (tab .tasks)
+  among allowed k i h w l =
+      let b : times (allowed k) (instances tab k) ≡ instances tab k = rw w in
+      omega (arith, total-within (λ k. times (allowed k) (instances tab k)) (tab .tasks) k h)
+
   writer-inside : (k i : ℕ) → k < tab .tasks → tab .writes s k ≡ true → i < instances tab k → startOf tab (wi s k i) + 6 < total (sizeOf tab) (suc s)
   unfolding startOf sizeOf writersBelow total
-  writer-inside k i h w l =
-      let a = total-within (λ k. times (tab .writes s k) (instances tab k)) (tab .tasks) k h in
-      let b : times (tab .writes s k) (instances tab k) ≡ instances tab k = rw w in
-      omega arith
+  writer-inside k i h w l = omega (arith, among (tab .writes s) k i h w l)
 
   reader-inside : (k i : ℕ) → k < tab .tasks → tab .reads s k ≡ true → i < instances tab k → startOf tab (ri s k i) + 6 < total (sizeOf tab) (suc s)
   unfolding startOf sizeOf readersBelow total
-  reader-inside k i h w l =
-      let a = total-within (λ k. times (tab .reads s k) (instances tab k)) (tab .tasks) k h in
-      let b : times (tab .reads s k) (instances tab k) ≡ instances tab k = rw w in
-      omega arith
+  reader-inside k i h w l = omega (arith, among (tab .reads s) k i h w l)
 
 -- ---- what is nothing for the signal
 
