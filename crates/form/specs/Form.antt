@@ -12,6 +12,7 @@ use Rattle.rules.specs.Bytes.{Part, bf, wi, ri, parts, scheduleIn}
 use Rattle.rules.specs.Numbers.{Told, tell, allDone, sumAbove}
 use Rattle.rules.specs.Answers.{recordsSay, endSays}
 use Rattle.rules.specs.declared.Answer.{Answer}
+use Rattle.form.specs.Records.{bfBytes, useBytes, enBytes, mostElements, mostInAll}
 use Rattle.form.specs.declared.forms.Place.{Place}
 use Rattle.form.specs.declared.forms.Walk.{Walk}
 
@@ -63,19 +64,19 @@ useStands bytes p mark s k i =
 -- a signal's record: its count holds for the records after it
 unfoldable pub signalStep : List ℕ → ℕ → Place → Walk
 signalStep bytes s place =
-    when (not (holdsAt bytes (place .at) 4)) (Walk.Wrong (Answer.ScheduleCut (place .at)))
+    when (not (holdsAt bytes (place .at) bfBytes)) (Walk.Wrong (Answer.ScheduleCut (place .at)))
     (when (not (bfStands bytes (place .at) s)) (Walk.Wrong (Answer.NotFixed (place .at)))
     (when (ltb (byteAt bytes (place .at + 3)) 1) (Walk.Wrong (Answer.BadCount (place .at)))
-    (when (ltb 32 (byteAt bytes (place .at + 3))) (Walk.Wrong (Answer.BadCount (place .at)))
-    (Walk.Next (record { at = place .at + 4; count = byteAt bytes (place .at + 3); sum = place .sum + byteAt bytes (place .at + 3) })))))
+    (when (ltb mostElements (byteAt bytes (place .at + 3))) (Walk.Wrong (Answer.BadCount (place .at)))
+    (Walk.Next (record { at = place .at + bfBytes; count = byteAt bytes (place .at + 3); sum = place .sum + byteAt bytes (place .at + 3) })))))
 
 -- an instance's record
 unfoldable pub useStep : List ℕ → List ℕ → ℕ → ℕ → ℕ → Place → Walk
 useStep bytes mark s k i place =
-    when (not (holdsAt bytes (place .at) 7)) (Walk.Wrong (Answer.ScheduleCut (place .at)))
+    when (not (holdsAt bytes (place .at) useBytes)) (Walk.Wrong (Answer.ScheduleCut (place .at)))
     (when (not (useStands bytes (place .at) mark s k i)) (Walk.Wrong (Answer.NotFixed (place .at)))
     (when (leb (place .count) (byteAt bytes (place .at + 6))) (Walk.Wrong (Answer.BadElement (place .at)))
-    (Walk.Next (record { at = place .at + 7; count = place .count; sum = place .sum }))))
+    (Walk.Next (record { at = place .at + useBytes; count = place .count; sum = place .sum }))))
 
 -- any record; after one that is wrong nothing is compared
 abbrev pub step : List ℕ → Part → Walk → Walk
@@ -89,10 +90,10 @@ step bytes (ri s k i) (Walk.Next place) = useStep bytes RI s k i place
 -- EN and nothing after it, then the sum of the counts
 unfoldable pub endStep : List ℕ → Place → Answer
 endStep bytes place =
-    when (not (holdsAt bytes (place .at) 2)) (Answer.ScheduleCut (place .at))
+    when (not (holdsAt bytes (place .at) enBytes)) (Answer.ScheduleCut (place .at))
     (when (not (markAt bytes (place .at) EN)) (Answer.NotFixed (place .at))
-    (when (ltb (place .at + 2) (length bytes)) (Answer.AfterSchedule (place .at + 2))
-    (when (ltb 256 (place .sum)) Answer.SumAbove
+    (when (ltb (place .at + enBytes) (length bytes)) (Answer.AfterSchedule (place .at + enBytes))
+    (when (ltb mostInAll (place .sum)) Answer.SumAbove
     (Answer.Done 0))))
 
 abbrev pub endOf : List ℕ → Walk → Answer

@@ -41,9 +41,26 @@ Instances tasks h instances = (k : ℕ) → k < tasks .count → getD instances 
 abbrev pub Short : ℕ → List ℕ → Type 0
 Short tasks instances = (k : ℕ) → k < tasks → getD instances k 0 ≤ longest
 
--- the most elements of one signal
+-- the bytes of each record with its mark
+abbrev pub bfBytes : ℕ
+bfBytes = 4
+
+abbrev pub useBytes : ℕ
+useBytes = 7
+
+abbrev pub enBytes : ℕ
+enBytes = 2
+
+-- the most elements of one signal, and of all together
 abbrev pub mostElements : ℕ
 mostElements = 32
+
+abbrev pub mostInAll : ℕ
+mostInAll = 256
+
+-- the most bytes that the records of one signal can take
+abbrev pub longestSignal : ℕ
+longestSignal = bfBytes + useBytes * (2 * (mostTasks * longest))
 
 -- the records of n instances of task k
 abbrev pub instanceParts : Side → ℕ → ℕ → ℕ → List Part
@@ -60,7 +77,7 @@ module _ (grid : Grid) (instances : List ℕ) where
 
   -- the bytes of the records of signal s
   unfoldable pub signalBytes : ℕ → ℕ → ℕ
-  signalBytes tasks s = 4 + 7 * (usersBelow Side.Writers s tasks + usersBelow Side.Readers s tasks)
+  signalBytes tasks s = bfBytes + useBytes * (usersBelow Side.Writers s tasks + usersBelow Side.Readers s tasks)
 
   -- ---- the records one after the other
 

@@ -27,7 +27,7 @@ ghost use Rattle.rules.specs.Reading.{tableOf};
 ghost use Rattle.rules.specs.declared.Signals.{Signals};
 ghost use Rattle.form.specs.declared.forms.Walk.{Walk};
 ghost use Rattle.form.specs.declared.sides.Side.{Side};
-ghost use Rattle.form.specs.Records.{Ready, mostElements, markOf, instanceParts, sideParts, sidesParts, signalParts, partsIn};
+ghost use Rattle.form.specs.Records.{Ready, bfBytes, useBytes, mostElements, markOf, instanceParts, sideParts, sidesParts, signalParts, partsIn};
 ghost use Rattle.form.specs.Form.{formSays, bfStands, instanceStands, useStands, signalStep, useStep, walked, step, endStep};
 
 // Where the byte that the table leaves free stands in its record.
@@ -265,7 +265,7 @@ fn use_record(
 }
 
 fn bf_stands(signal: usize, bytes: &[u8], at: usize) -> bool
-    requires { ⌜ at + 4 ≤ length (now bytes) ⌝ }
+    requires { ⌜ at + bfBytes ≤ length (now bytes) ⌝ }
     ensures { λ r. ⌜ r ≡ bfStands (now (bytes .entry)) at signal ⌝ }
 {
     if bytes[at] != BF[0] {
@@ -285,7 +285,7 @@ fn use_stands(
     bytes: &[u8],
     at: usize,
 ) -> bool
-    requires { ⌜ at + 7 ≤ length (now bytes) ⌝ }
+    requires { ⌜ at + useBytes ≤ length (now bytes) ⌝ }
     ensures { λ r. ⌜ r ≡ useStands (now (bytes .entry)) at mark signal task instance ⌝ }
 {
     if bytes[at] != mark[0] {
@@ -305,7 +305,7 @@ fn use_stands(
 
 // The instance's two bytes, high byte first.
 fn instance_stands(instance: usize, bytes: &[u8], at: usize) -> bool
-    requires { ⌜ at + 7 ≤ length (now bytes) ⌝ }
+    requires { ⌜ at + useBytes ≤ length (now bytes) ⌝ }
     ensures { λ r. ⌜ r ≡ instanceStands (now (bytes .entry)) at instance ⌝ }
 {
     let high = instance / 256;

@@ -16,7 +16,7 @@ ghost use Rattle.rules.specs.Bytes.{scheduleLength};
 ghost use Rattle.rules.specs.Reading.{tableOf};
 ghost use Rattle.rules.specs.declared.Signals.{Signals};
 ghost use Rattle.form.specs.declared.sides.Side.{Side};
-ghost use Rattle.form.specs.Records.{usersBelow, signalBytes, Short, Ready};
+ghost use Rattle.form.specs.Records.{longestSignal, usersBelow, signalBytes, Short, Ready};
 
 // The bytes of a whole schedule.
 pub fn length(
@@ -40,7 +40,7 @@ fn signals_length(
 ) -> usize
     requires { ⌜ (tasks ≤ mostTasks) × (signals ≤ mostSignals) × Short tasks (now instances) ⌝ }
     ensures is { λ r. ⌜ r ≡ total (signalBytes (now (grid .entry)) (now (instances .entry)) tasks) signals ⌝ }
-    ensures short { λ r. ⌜ r ≤ signals * (4 + 14 * 16 * longest) ⌝ }
+    ensures short { λ r. ⌜ r ≤ signals * longestSignal ⌝ }
 {
     let mut bytes: usize = 0;
     let mut s: usize = 0;
@@ -59,7 +59,7 @@ fn signal_length(
 ) -> usize
     requires { ⌜ (tasks ≤ mostTasks) × (signal < mostSignals) × Short tasks (now instances) ⌝ }
     ensures is { λ r. ⌜ r ≡ signalBytes (now (grid .entry)) (now (instances .entry)) tasks signal ⌝ }
-    ensures short { λ r. ⌜ r ≤ 4 + 14 * 16 * longest ⌝ }
+    ensures short { λ r. ⌜ r ≤ longestSignal ⌝ }
 {
     let writers = users_in_all(grid, instances, tasks, signal, Side::Writers);
     let readers = users_in_all(grid, instances, tasks, signal, Side::Readers);

@@ -1,17 +1,17 @@
 -- The records put one after the other are the bytes of the schedule, and the bytes after it stay.
 use mathlib.Core.Path.{_≡_, refl, sym, ap, ap₂, subst, _∙_}
 use mathlib.Core.List.{List, [], _∷_, _++_, append-assoc, append-nil}
-use Prim.Native.Nat.{ℕ, zero, suc, _+_, _*_, _-_, _≤_}
+use Prim.Native.Nat.{ℕ, zero, suc, _+_, _*_, _-_, _/_, _≤_}
 use native.Mathlib.Omega.{arith}
 use lib.ListN.{length, getD, take, drop, length-append, length-drop, take-append-drop}
 use lib.Seq.{sets, sets-eq, length-sets, length-take-le, take-at, drop-append-add, drop-drop}
-use Rattle.rules.specs.Words.{total}
-use Rattle.rules.specs.Windows.{Table, lcmAll}
+use Rattle.rules.specs.Words.{total, bit}
+use Rattle.rules.specs.Windows.{Table, lcmAll, hyper}
 use Rattle.rules.specs.Table as table
 use Rattle.rules.specs.Schedule.{Schedule}
 use Rattle.rules.specs.Fields.{EN, WI, RI}
 use Rattle.rules.specs.Bytes.{Part, bf, wi, ri, fixed, free, size, parts, sizeOf, startOf, scheduleLength, recordsOf, bytesOf}
-use Rattle.rules.specs.Reading.{Grid, taskOf, tableOf}
+use Rattle.rules.specs.Reading.{Grid, taskOf, tableOf, writesIn, readsIn}
 use Rattle.rules.specs.declared.Tasks.{Tasks}
 use Rattle.rules.specs.declared.Signals.{Signals}
 use Rattle.theory.proofs.Laid.{Laid, laid}
@@ -20,7 +20,7 @@ use Rattle.form.specs.Records.{Instances, signalBytes, partsIn}
 use Rattle.form.specs.Form.{walked}
 use Rattle.form.proofs.Running.{Within, parts-within}
 use Rattle.form.proofs.Tables.{length-is, parts-is}
-use Rattle.schedule.specs.Writing.{usesBefore, numberOf, scheduleOf, usesOf, usesBelow, Written, bfPut, usePut, put}
+use Rattle.schedule.specs.Writing.{Room, usesBefore, numberOf, scheduleOf, usesOf, usesBelow, Written, bfPut, usePut, put}
 
 -- a run of stores, seen from what stands before it and after it
 splice : (p r q : ℕ) (rec out ys : List ℕ) → length rec ≡ r → p + r ≤ q → q ≤ length out → take (p + r) (sets out p rec) ++ ys ++ drop q (sets out p rec) ≡ take p out ++ rec ++ ys ++ drop q out
@@ -157,3 +157,15 @@ module _ (tasks : Tasks) (S : Signals) (grid : Grid) (h : ℕ) (instances : List
       written (tableOf tasks S grid) counts elements out last w p
       (subst (λ xs. Within 0 xs (S .count)) same (subst (λ m. Within 0 (partsIn grid instances (tasks .count) n) m) (sym q) (parts-within grid instances (tasks .count) n)))
       l (d ∙ ap (λ xs. walked (put counts elements) xs (record { out = out; used = 0 })) same) (omega (arith, length-by-uses)) f
+
+-- ---- what an accepted table gives: only the number of its signals counts
+
+same-uses : (tasks : Tasks) (S R : Signals) (grid : Grid) → S .count ≡ R .count → table.uses (tableOf tasks S grid) ≡ table.uses (tableOf tasks R grid)
+unfolding table.uses table.accessesOf hyper
+same-uses tasks S R grid e =
+    ap (λ n. total (λ k. total (λ s. bit (readsIn grid s k) + bit (writesIn grid s k)) n * (lcmAll (λ j. taskOf tasks j .period) (tasks .count) / taskOf tasks k .period)) (tasks .count)) e
+
+pub room : (tasks : Tasks) (S : Signals) (grid : Grid) (signals n : ℕ) → S .count ≡ signals → table.uses (tableOf tasks S grid) ≤ table.mostUses → scheduleLength (tableOf tasks S grid) ≤ n → Room tasks signals grid n
+room tasks S grid signals n q u l R e =
+    let same = same-uses tasks S R grid (q ∙ sym e) in
+    (omega arith, omega (arith, sums.length-is (tableOf tasks S grid), sums.length-is (tableOf tasks R grid)))

@@ -14,7 +14,7 @@ use Rattle.rules.specs.Reading.{Grid, tableOf}
 use Rattle.rules.specs.declared.Tasks.{Tasks}
 use Rattle.rules.specs.declared.Signals.{Signals}
 use Rattle.form.specs.declared.sides.Side.{Side}
-use Rattle.form.specs.Records.{usersBelow}
+use Rattle.form.specs.Records.{bfBytes, useBytes, usersBelow}
 
 module _ (tab : Table) where
   -- how many WI and RI records the signals below s have
@@ -64,6 +64,6 @@ usePut out p mark s k i element = sets out p (byteAt mark 0 ∷ byteAt mark 1 �
 
 -- a record stands after those of s or s + 1 signals and of so many uses
 abbrev pub put : List ℕ → List ℕ → Part → Written → Written
-put counts elements (bf s) w = record { out = bfPut (w .out) (4 * s + 7 * w .used) s (getD counts s 0); used = w .used }
-put counts elements (wi s k i) w = record { out = usePut (w .out) (4 * (s + 1) + 7 * w .used) WI s k i (getD elements (w .used) 0); used = w .used + 1 }
-put counts elements (ri s k i) w = record { out = usePut (w .out) (4 * (s + 1) + 7 * w .used) RI s k i (getD elements (w .used) 0); used = w .used + 1 }
+put counts elements (bf s) w = record { out = bfPut (w .out) (bfBytes * s + useBytes * w .used) s (getD counts s 0); used = w .used }
+put counts elements (wi s k i) w = record { out = usePut (w .out) (bfBytes * (s + 1) + useBytes * w .used) WI s k i (getD elements (w .used) 0); used = w .used + 1 }
+put counts elements (ri s k i) w = record { out = usePut (w .out) (bfBytes * (s + 1) + useBytes * w .used) RI s k i (getD elements (w .used) 0); used = w .used + 1 }

@@ -21,7 +21,7 @@ ghost use Rattle.rules.specs.Bytes.{bytesOf, scheduleLength};
 ghost use Rattle.rules.specs.Reading.{tableOf};
 ghost use Rattle.rules.specs.declared.Signals.{Signals};
 ghost use Rattle.form.specs.declared.sides.Side as sides;
-ghost use Rattle.form.specs.Records.{Ready, Short, markOf, usersBelow, instanceParts, sideParts, signalParts, partsIn};
+ghost use Rattle.form.specs.Records.{Ready, Short, bfBytes, useBytes, enBytes, markOf, usersBelow, instanceParts, sideParts, signalParts, partsIn};
 ghost use Rattle.form.specs.Form.{walked};
 ghost use Rattle.schedule.specs.Writing.{Room, scheduleOf, bfPut, usePut, put, usesOf, usesBelow};
 
@@ -47,7 +47,7 @@ pub fn write(
 }
 
 fn put_end(at: usize, out: &mut [u8])
-    requires { ⌜ at + 2 ≤ length (now out) ⌝ }
+    requires { ⌜ at + enBytes ≤ length (now out) ⌝ }
     ensures { λ _. ⌜ now (out .exit) ≡ sets (now (out .entry)) at fields.EN ⌝ }
 {
     out[at] = EN[0];
@@ -64,7 +64,7 @@ fn put_signals(
     uses: &[u8; MOST_USES],
     out: &mut [u8],
 ) -> usize
-    requires { ⌜ (tasks ≤ mostTasks) × (signals ≤ mostSignals) × Short tasks (now instances) × (usesBelow (now grid) (now instances) tasks signals ≤ mostUses) × (4 * signals + 7 * usesBelow (now grid) (now instances) tasks signals ≤ length (now out)) ⌝ }
+    requires { ⌜ (tasks ≤ mostTasks) × (signals ≤ mostSignals) × Short tasks (now instances) × (usesBelow (now grid) (now instances) tasks signals ≤ mostUses) × (bfBytes * signals + useBytes * usesBelow (now grid) (now instances) tasks signals ≤ length (now out)) ⌝ }
     ensures is { λ r. ⌜ record { out = now (out .exit); used = r } ≡ walked (put (now (counts .entry)) (now (uses .entry))) (partsIn (now (grid .entry)) (now (instances .entry)) tasks signals) (record { out = now (out .entry); used = 0 }) ⌝ }
     ensures many { λ r. ⌜ r ≡ usesBelow (now (grid .entry)) (now (instances .entry)) tasks signals ⌝ }
 {
@@ -88,7 +88,7 @@ fn put_signal(
     used: usize,
     out: &mut [u8],
 ) -> usize
-    requires { ⌜ (tasks ≤ mostTasks) × (signal < mostSignals) × Short tasks (now instances) × (used + usesOf (now grid) (now instances) tasks signal ≤ mostUses) × (4 * (signal + 1) + 7 * (used + usesOf (now grid) (now instances) tasks signal) ≤ length (now out)) ⌝ }
+    requires { ⌜ (tasks ≤ mostTasks) × (signal < mostSignals) × Short tasks (now instances) × (used + usesOf (now grid) (now instances) tasks signal ≤ mostUses) × (bfBytes * (signal + 1) + useBytes * (used + usesOf (now grid) (now instances) tasks signal) ≤ length (now out)) ⌝ }
     ensures is { λ r. ⌜ record { out = now (out .exit); used = r } ≡ walked (put (now (counts .entry)) (now (uses .entry))) (signalParts (now (grid .entry)) (now (instances .entry)) tasks signal) (record { out = now (out .entry); used = used }) ⌝ }
     ensures many { λ r. ⌜ r ≡ used + usesOf (now (grid .entry)) (now (instances .entry)) tasks signal ⌝ }
 {
@@ -131,7 +131,7 @@ fn put_side(
     first: usize,
     out: &mut [u8],
 ) -> usize
-    requires { ⌜ (tasks ≤ mostTasks) × (signal < mostSignals) × Short tasks (now instances) × (first + usersBelow (now grid) (now instances) side signal tasks ≤ mostUses) × (4 * (signal + 1) + 7 * (first + usersBelow (now grid) (now instances) side signal tasks) ≤ length (now out)) ⌝ }
+    requires { ⌜ (tasks ≤ mostTasks) × (signal < mostSignals) × Short tasks (now instances) × (first + usersBelow (now grid) (now instances) side signal tasks ≤ mostUses) × (bfBytes * (signal + 1) + useBytes * (first + usersBelow (now grid) (now instances) side signal tasks) ≤ length (now out)) ⌝ }
     ensures is { λ r. ⌜ ((counts : List ℕ) → record { out = now (out .exit); used = r } ≡ walked (put counts (now (uses .entry))) (sideParts (now (grid .entry)) (now (instances .entry)) tasks side signal) (record { out = now (out .entry); used = first })) ⌝ }
     ensures many { λ r. ⌜ r ≡ first + usersBelow (now (grid .entry)) (now (instances .entry)) side signal tasks ⌝ }
 {
@@ -156,7 +156,7 @@ fn put_instances(
     first: usize,
     out: &mut [u8],
 ) -> usize
-    requires { ⌜ (task < mostTasks) × (signal < mostSignals) × (records ≤ longest) × (first + records ≤ mostUses) × (4 * (signal + 1) + 7 * (first + records) ≤ length (now out)) ⌝ }
+    requires { ⌜ (task < mostTasks) × (signal < mostSignals) × (records ≤ longest) × (first + records ≤ mostUses) × (bfBytes * (signal + 1) + useBytes * (first + records) ≤ length (now out)) ⌝ }
     ensures is { λ r. ⌜ ((counts : List ℕ) (side : sides.Side) → mark ≡ markOf side → record { out = now (out .exit); used = r } ≡ walked (put counts (now (uses .entry))) (instanceParts side signal task records) (record { out = now (out .entry); used = first })) ⌝ }
     ensures many { λ r. ⌜ r ≡ first + records ⌝ }
 {
@@ -180,7 +180,7 @@ fn put_instances(
 }
 
 fn put_bf(signal: usize, count: u8, at: usize, out: &mut [u8])
-    requires { ⌜ (signal < mostSignals) × (at + 4 ≤ length (now out)) ⌝ }
+    requires { ⌜ (signal < mostSignals) × (at + bfBytes ≤ length (now out)) ⌝ }
     ensures { λ _. ⌜ now (out .exit) ≡ bfPut (now (out .entry)) at signal count ⌝ }
 {
     out[at] = BF[0];
@@ -198,7 +198,7 @@ fn put_use(
     at: usize,
     out: &mut [u8],
 )
-    requires { ⌜ (signal < mostSignals) × (task < mostTasks) × (instance < longest) × (at + 7 ≤ length (now out)) ⌝ }
+    requires { ⌜ (signal < mostSignals) × (task < mostTasks) × (instance < longest) × (at + useBytes ≤ length (now out)) ⌝ }
     ensures { λ _. ⌜ now (out .exit) ≡ usePut (now (out .entry)) at mark signal task instance element ⌝ }
 {
     out[at] = mark[0];

@@ -4,14 +4,14 @@ use Prim.Native.Nat.{_-_, _+_, _*_, _≤_}
 use native.Mathlib.Omega.{arith}
 use Rattle.rules.specs.Words.{total}
 use Rattle.rules.specs.Table.{longest}
-use Rattle.form.specs.Records.{signalBytes}
+use Rattle.form.specs.Records.{longestSignal, signalBytes}
 use Rattle.form.proofs.Steps.{total-none, total-turn}
 use Rattle.form.proofs.lengths.signals_length.Statement.{statement}
 use Rattle.form.proofs.lengths.signals_length.Tie as tie
 
 abbrev Inv-loop : tie.InvT-loop
 Inv-loop grid instances tasks signals bytes₀ s₀ bytes s =
-    (s ≤ signals) × (bytes ≡ total (signalBytes grid instances tasks) s) × (bytes ≤ s * (4 + 14 * 16 * longest))
+    (s ≤ signals) × (bytes ≡ total (signalBytes grid instances tasks) s) × (bytes ≤ s * longestSignal)
 
 abbrev μ-loop : tie.MeasureT-loop
 μ-loop grid instances tasks signals bytes₀ s₀ bytes s = signals - s
