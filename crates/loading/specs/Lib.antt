@@ -1,0 +1,2 @@
+-- The lists of a machine that is loaded.
+pub mod Lists

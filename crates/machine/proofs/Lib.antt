@@ -1,0 +1,6 @@
+pub mod Steps
+pub mod Fit
+pub mod Follows
+pub mod Simulates
+pub mod Listed
+pub mod Started

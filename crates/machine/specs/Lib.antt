@@ -1,0 +1,6 @@
+-- The machine's calls on its state, and what holds of them.
+pub mod Calls
+pub mod Fit
+pub mod Simulates
+pub mod Started
+pub mod Cases

@@ -1,0 +1,293 @@
+// The machine that runs a table with a schedule tick by tick. After loading it needs neither of them again.
+use rows::CELLS;
+use rows::NONE;
+use rows::Place;
+use rows::USES;
+use rows::WORDS;
+use rules::Answer;
+use rules::MOST_SIGNALS;
+use rules::MOST_TASKS;
+use rules::Signals;
+use rules::Tasks;
+ghost use mathlib.Core.Path.{_≡_};
+ghost use Rattle.machine.specs.Calls.{unloaded, stepOf, readOf, writeOf};
+ghost use Rattle.machine.specs.Started.{given, started, Checked};
+
+pub struct Machine {
+    pub loaded: bool,
+    pub hyper: u32,
+    pub tick: u32,
+    // Each task's window, and how many instances it has in a hyper-period.
+    pub periods: [u32; MOST_TASKS],
+    pub starts: [u32; MOST_TASKS],
+    pub ends: [u32; MOST_TASKS],
+    pub counts: [u32; MOST_TASKS],
+    // For each task and signal, where the uses of the access begin, one for each instance; none where there is no access.
+    pub reads: [u16; CELLS],
+    pub writes: [u16; CELLS],
+    // The position in the store of each use, in the schedule's order.
+    pub uses: [u16; USES],
+    pub defaults: [u32; MOST_SIGNALS],
+    // Each signal's element 0, and the position of what was published last.
+    pub carried: [u16; MOST_SIGNALS],
+    pub held: [u16; MOST_SIGNALS],
+    pub store: [u32; WORDS],
+}
+
+pub struct Stepped {
+    pub answer: Answer,
+    pub machine: Machine,
+}
+
+// A refused read has word 0.
+pub struct WordRead {
+    pub answer: Answer,
+    pub word: u32,
+}
+
+impl Machine {
+    // Before the first loading, so unfit.
+    pub fn new() -> Machine
+        ensures { λ r. ⌜ r ≡ unloaded ⌝ }
+    {
+        Machine {
+            loaded: false,
+            hyper: 0,
+            tick: 0,
+            periods: [0; MOST_TASKS],
+            starts: [0; MOST_TASKS],
+            ends: [0; MOST_TASKS],
+            counts: [0; MOST_TASKS],
+            reads: [NONE; CELLS],
+            writes: [NONE; CELLS],
+            uses: [NONE; USES],
+            defaults: [0; MOST_SIGNALS],
+            carried: [NONE; MOST_SIGNALS],
+            held: [NONE; MOST_SIGNALS],
+            store: [0u32; WORDS],
+        }
+    }
+
+    pub fn step(self) -> Stepped
+        ensures { λ r. ⌜ r ≡ stepOf self ⌝ }
+    {
+        if !rows::is_fit(
+            self.loaded,
+            self.hyper,
+            self.tick,
+            &self.counts,
+            &self.reads,
+            &self.writes,
+            &self.uses,
+            &self.carried,
+            &self.held,
+        ) {
+            return Stepped {
+                answer: Answer::Unfit,
+                machine: self,
+            };
+        }
+        let mut held = self.held;
+        let mut store = self.store;
+        let mut tick = self.tick + 1;
+        rows::publish_all(
+            &mut held,
+            &self.periods,
+            &self.ends,
+            &self.counts,
+            &self.writes,
+            &self.uses,
+            self.tick,
+        );
+        if self.hyper <= tick {
+            rows::carry_all(&mut store, &self.carried, &held);
+            let carried = self.carried;
+            held = carried;
+            tick = 0;
+        }
+        rows::open_all(
+            &mut store,
+            &self.periods,
+            &self.starts,
+            &self.counts,
+            &self.writes,
+            &self.uses,
+            &self.defaults,
+            tick,
+        );
+        let mut next = self;
+        next.tick = tick;
+        next.held = held;
+        next.store = store;
+        Stepped {
+            answer: Answer::Done(0),
+            machine: next,
+        }
+    }
+
+    pub fn read(self, task: usize, signal: usize) -> WordRead
+        ensures { λ r. ⌜ r ≡ readOf self task signal ⌝ }
+    {
+        if !rows::is_fit(
+            self.loaded,
+            self.hyper,
+            self.tick,
+            &self.counts,
+            &self.reads,
+            &self.writes,
+            &self.uses,
+            &self.carried,
+            &self.held,
+        ) {
+            return WordRead {
+                answer: Answer::Unfit,
+                word: 0,
+            };
+        }
+        match rows::locate(
+            &self.periods,
+            &self.starts,
+            &self.ends,
+            &self.counts,
+            &self.reads,
+            &self.uses,
+            self.tick,
+            task,
+            signal,
+        ) {
+            Place::At(position) => WordRead {
+                answer: Answer::Done(0),
+                word: rows::load(&self.store, position),
+            },
+            Place::NoAccess => WordRead {
+                answer: Answer::NoAccess,
+                word: 0,
+            },
+            Place::Outside => WordRead {
+                answer: Answer::Outside,
+                word: 0,
+            },
+        }
+    }
+
+    pub fn write(self, task: usize, signal: usize, word: u32) -> Stepped
+        ensures { λ r. ⌜ r ≡ writeOf self task signal word ⌝ }
+    {
+        if !rows::is_fit(
+            self.loaded,
+            self.hyper,
+            self.tick,
+            &self.counts,
+            &self.reads,
+            &self.writes,
+            &self.uses,
+            &self.carried,
+            &self.held,
+        ) {
+            return Stepped {
+                answer: Answer::Unfit,
+                machine: self,
+            };
+        }
+        match rows::locate(
+            &self.periods,
+            &self.starts,
+            &self.ends,
+            &self.counts,
+            &self.writes,
+            &self.uses,
+            self.tick,
+            task,
+            signal,
+        ) {
+            Place::At(position) => {
+                let mut store = self.store;
+                rows::save(&mut store, position, word);
+                let mut next = self;
+                next.store = store;
+                Stepped {
+                    answer: Answer::Done(0),
+                    machine: next,
+                }
+            }
+            Place::NoAccess => Stepped {
+                answer: Answer::NoAccess,
+                machine: self,
+            },
+            Place::Outside => Stepped {
+                answer: Answer::Outside,
+                machine: self,
+            },
+        }
+    }
+}
+
+// Loading after its checks: the block zeroed, every element filled with its default, tick 0 opened.
+pub fn start<'a>(
+    tasks: Tasks,
+    signals: Signals,
+    grid: &'a [[u8; MOST_SIGNALS]; MOST_TASKS],
+    hyper: u32,
+    schedule: &'a [u8],
+) -> Machine
+    requires { ⌜ Checked (given tasks signals (now grid) hyper (now schedule)) ⌝ }
+    ensures { λ r. ⌜ r ≡ started (given tasks signals (now (grid .entry)) hyper (now (schedule .entry))) ⌝ }
+{
+    let mut periods = [0u32; MOST_TASKS];
+    let mut starts = [0u32; MOST_TASKS];
+    let mut ends = [0u32; MOST_TASKS];
+    let mut counts = [0u32; MOST_TASKS];
+    loading::load_windows(
+        &mut periods,
+        &mut starts,
+        &mut ends,
+        &mut counts,
+        tasks,
+        hyper,
+    );
+    let mut writes = [NONE; CELLS];
+    let mut reads = [NONE; CELLS];
+    let mut uses = [NONE; USES];
+    let mut carried = [NONE; MOST_SIGNALS];
+    let mut store = [0u32; WORDS];
+    let defaults = signals.defaults;
+    loading::load_signals(
+        &mut writes,
+        &mut reads,
+        &mut uses,
+        &mut carried,
+        &mut store,
+        grid,
+        &counts,
+        &defaults,
+        schedule,
+        tasks.count,
+        signals.count,
+    );
+    rows::open_all(
+        &mut store,
+        &periods,
+        &starts,
+        &counts,
+        &writes,
+        &uses,
+        &defaults,
+        0,
+    );
+    Machine {
+        loaded: true,
+        hyper: hyper,
+        tick: 0,
+        periods: periods,
+        starts: starts,
+        ends: ends,
+        counts: counts,
+        reads: reads,
+        writes: writes,
+        uses: uses,
+        defaults: defaults,
+        carried: carried,
+        held: carried,
+        store: store,
+    }
+}

@@ -1,0 +1,16 @@
+-- One element is set to the default.
+use borrow.Author.Needs.{needs}
+use Rattle.rows.specs.Rows.{save, openOne}
+use Rattle.rows.proofs.open_one.Statement.{statement}
+use Rattle.rows.proofs.open_one.Tie as tie
+
+pub open-one-spec : {M : Type 1} → statement M
+unfolding openOne
+open-one-spec =
+    tie.close
+    (tie.spec
+    (λ c κs. search needs)
+    (λ c. search needs)
+    (λ c. search needs)
+    (λ c κs. search needs)
+    (λ c. rw (← c .before .before .use-of .ensures) (c .save .ensures)))
