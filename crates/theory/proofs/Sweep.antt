@@ -37,7 +37,7 @@ module _ (tab : Table) where
   Before u (carried r) = ⊥
   Before u (by r j i) = Begun (opens tab j i) j u
 
-  opened-each : (X : ℕ → ℕ → Type 0) (t k : ℕ) → ((j i : ℕ) → Opened t k j i → X j i) → ((i : ℕ) → opens tab k i ≡ t → X k i) → (j i : ℕ) → Opened t (suc k) j i → X j i
+  pub opened-each : (X : ℕ → ℕ → Type 0) (t k : ℕ) → ((j i : ℕ) → Opened t k j i → X j i) → ((i : ℕ) → opens tab k i ≡ t → X k i) → (j i : ℕ) → Opened t (suc k) j i → X j i
   opened-each X t k old new j i (inl l) = old j i (inl l)
   opened-each X t k old new j i (inr e) =
       split (eqb j k)
@@ -51,7 +51,7 @@ module _ (tab : Table) where
   opened-more t k j i o = ⊎-elim (λ l. inl l) (λ e. inr (e .0, omega arith)) o
 
   -- after the last opening of a tick comes the next tick
-  opened-next : (t j i : ℕ) → j < tab .tasks → Opened t (tab .tasks) j i ↔ Opened (suc t) 0 j i
+  pub opened-next : (t j i : ℕ) → j < tab .tasks → Opened t (tab .tasks) j i ↔ Opened (suc t) 0 j i
   opened-next t j i h = (
     (λ o. inl (omega (arith, opened-le t (tab .tasks) j i o))),
     λ o. let l = opened-upto o in split (ltb (opens tab j i) t) (λ q. inl (ltb-true (opens tab j i) t q)) (λ q. inr (omega (arith, ltb-false (opens tab j i) t q), h)),
@@ -78,7 +78,7 @@ module _ (tab : Table) (F : Fits tab) where
   opens-instance k i t h e = sym (instance-is tab F k i t h (omega arith) (omega (arith, F .window k h)))
 
   -- v was there before the opening of task k at t, or it is what opens there
-  begun-cases : (s t k : ℕ) (v : Value) → IsValue tab v → signalOf v ≡ s → Begun tab t (suc k) v → Begun tab t k v ⊎ ((v ≡ by s k (instance tab k t)) × (opens tab k (instance tab k t) ≡ t))
+  pub begun-cases : (s t k : ℕ) (v : Value) → IsValue tab v → signalOf v ≡ s → Begun tab t (suc k) v → Begun tab t k v ⊎ ((v ≡ by s k (instance tab k t)) × (opens tab k (instance tab k t) ≡ t))
   begun-cases s t k (carried r) x z b = inl tt
   begun-cases s t k (by r j i) x z b =
       opened-each tab (λ j i. j < tab .tasks → Opened tab t k j i ⊎ ((by r j i ≡ by s k (instance tab k t)) × (opens tab k (instance tab k t) ≡ t))) t k

@@ -2,17 +2,17 @@
 use mathlib.Core.Bool.{true, false, _&&_, cond}
 use mathlib.Core.List.{List, [], _∷_, _++_}
 use mathlib.Core.Logic.{inl, ⊎-elim}
-use mathlib.Core.Option.{none}
+use mathlib.Core.Option.{none, some}
 use mathlib.Core.Path.{_≡_, refl, sym, ap, subst, _∙_}
 use Prim.Native.Nat.{ℕ, zero, suc, _+_, _*_, _-_, _/_, _%_, _≤_, _<_}
 use native.Mathlib.Nat.{add-zero}
 use native.Mathlib.Omega.{arith}
 use lib.Arith.{digits-div, digits-mod}
-use lib.Dec.{leb, eqb}
+use lib.Dec.{T, leb, eqb}
 use borrow.Author.Tests.{leb-true, leb-false, eqb-true, eqb-false, eq-eqb, ne-eqb}
 use Rattle.rules.specs.Words.{gather, only, highest, maybe}
 use Rattle.rules.specs.Windows.{Table, opens, closes, instance, instances, hyper}
-use Rattle.rules.specs.Values.{Value, carried, by, signalOf, publisher, bound, opening, until, IsValue}
+use Rattle.rules.specs.Values.{Value, carried, by, signalOf, publisher, bound, opening, until, Live, IsValue}
 use Rattle.rules.specs.Table.{mostTasks, Fits}
 use Rattle.rules.specs.Schedule.{Schedule, most, elementOf}
 use Rattle.theory.specs.Sweep.{closingNumber, openingNumber, taskIn, tickIn, isOpening, openingsAt, closingsAfter, events, through, Pass, readerOpens, writerOpens, writerCloses, opened, closed, handled, started, sweep, SignalPasses, SweepExact, SweepsExact}
@@ -20,7 +20,7 @@ use Rattle.theory.proofs.Tests.{split, splitOption, both, is, holds, no
 use Rattle.theory.proofs.Time.{highest-some, instance-lt, closes-le}
 use Rattle.theory.proofs.Bound.{bound-signal, bound-value, live-begins}
 use Rattle.theory.proofs.Stores.{value-signal}
-use Rattle.theory.proofs.Sweep.{Opened, Begun, Before, begun-le, opens-instance, order, Kept, no-reader, reader-opens, no-writer, writer-opens, nothing-closes, writer-closes, at-start}
+use Rattle.theory.proofs.Sweep.{Opened, Begun, Before, begun-le, opens-instance, order, Free, Kept, no-reader, reader-opens, no-writer, writer-opens, nothing-closes, writer-closes, at-start}
 
 -- ---- one after the other
 
@@ -66,77 +66,105 @@ module _ (tab : Table) (E : Schedule) (s : ℕ) where
 
 -- ---- tick by tick
 
-module _ (tab : Table) (F : Fits tab) (E : Schedule) (s : ℕ) (y : s < tab .signals) where
-  -- of the tasks that close at t + 1 only the one that publishes signal s matters
-  closings-are : (t : ℕ) (p : Pass) (n : ℕ) → t < hyper tab → n ≤ tab .tasks
-      → through (handled tab E s) p (gather n (λ k. only (eqb (closes tab k (instance tab k t)) (suc t)) (closingNumber (suc t) k)))
-      ≡ maybe (highest (λ k. tab .writes s k && eqb (closes tab k (instance tab k t)) (suc t)) n) p (λ k. writerCloses tab E s p k t)
-  unfolding through gather highest
-  closings-are t p zero h l = refl
-  closings-are t p (suc n) h l =
-      let r = closings-are t p n h (omega arith) in
-      through-append (handled tab E s) p (gather n (λ k. only (eqb (closes tab k (instance tab k t)) (suc t)) (closingNumber (suc t) k))) _
-      ∙ split (eqb (closes tab n (instance tab n t)) (suc t))
-      (λ c. split (tab .writes s n)
-      (λ w. rw (c, w, handled-closing tab E s (through (handled tab E s) p (gather n (λ k. only (eqb (closes tab k (instance tab k t)) (suc t)) (closingNumber (suc t) k)))) t n (omega (arith, F .few-tasks)), w, r, alone w c))
-      (λ w. rw (c, w, handled-closing tab E s (through (handled tab E s) p (gather n (λ k. only (eqb (closes tab k (instance tab k t)) (suc t)) (closingNumber (suc t) k)))) t n (omega (arith, F .few-tasks)), w) r))
-      (λ c. split (tab .writes s n) (λ w. rw (c, w) r) (λ w. rw (c, w) r))
-    where
-      alone : tab .writes s n ≡ true → eqb (closes tab n (instance tab n t)) (suc t) ≡ true → highest (λ k. tab .writes s k && eqb (closes tab k (instance tab k t)) (suc t)) n ≡ none
-      alone w c =
-          splitOption (highest (λ k. tab .writes s k && eqb (closes tab k (instance tab k t)) (suc t)) n)
-          (λ e. e)
-          (λ k e.
-          let (a, b) = highest-some _ n k e in
-          let (d, f) = both (tab .writes s k) (eqb (closes tab k (instance tab k t)) (suc t)) b in
-          let m : k < tab .tasks = omega arith in
-          let z = F .single s y k n (instance tab k t) (instance tab n t) m l (holds d) (holds w) (instance-lt tab F k t m h) (instance-lt tab F n t l h)
-          (eqb-true (closes tab k (instance tab k t)) (suc t) f ∙ sym (eqb-true (closes tab n (instance tab n t)) (suc t) c)) in
-          absurd (omega arith))
+-- A pass that at each opening reads, then writes, and at each closing publishes, as the table says of signal s.
+module _ (tab : Table) (s : ℕ) {A : Type 0} (f : A → ℕ → A) (reads writes publishes : A → ℕ → ℕ → A) where
+  -- what it keeps at tick t, once the readers below k and the writers below l have opened
+  pub record Steps (P : ℕ → ℕ → ℕ → A → Type 0) : Type 0 where
+    pub opening : (a : A) (t k : ℕ) → k < mostTasks
+        → f a (openingNumber t k) ≡ cond (tab .writes s k) (writes (cond (tab .reads s k) (reads a k t) a) k t) (cond (tab .reads s k) (reads a k t) a)
+    pub closing : (a : A) (t k : ℕ) → k < mostTasks → f a (closingNumber (suc t) k) ≡ cond (tab .writes s k) (publishes a k t) a
+    pub no-reader : (t k l : ℕ) (a : A) → t < hyper tab → k < tab .tasks → ((i : ℕ) → opens tab k i ≡ t → T (tab .reads s k) → ⊥) → P t k l a → P t (suc k) l a
+    pub reader : (t k l : ℕ) (a : A) → t < hyper tab → k < tab .tasks → opens tab k (instance tab k t) ≡ t → T (tab .reads s k) → P t k l a → P t (suc k) l (reads a k t)
+    pub no-writer : (t k l : ℕ) (a : A) → t < hyper tab → k < tab .tasks → ((i : ℕ) → opens tab k i ≡ t → T (tab .writes s k) → ⊥) → P t l k a → P t l (suc k) a
+    pub writer : (t k l : ℕ) (a : A) → t < hyper tab → k < tab .tasks → opens tab k (instance tab k t) ≡ t → T (tab .writes s k) → P t l k a → P t l (suc k) (writes a k t)
+    pub silent : (t : ℕ) (a : A) → t < hyper tab → publisher tab s t ≡ none → P t (tab .tasks) (tab .tasks) a → P (suc t) 0 0 a
+    pub published : (t k : ℕ) (a : A) → t < hyper tab → publisher tab s t ≡ some k → P t (tab .tasks) (tab .tasks) a → P (suc t) 0 0 (publishes a k t)
 
-  module _ (low : (v : Value) → IsValue tab v → signalOf v ≡ s → elementOf E v < most tab) where
-    reader-kept : (t k l : ℕ) (p : Pass) → t < hyper tab → k < tab .tasks → opens tab k (instance tab k t) ≡ t → Kept tab F E s y t k l p
-        → Kept tab F E s y t (suc k) l (cond (tab .reads s k) (readerOpens tab E s p k t) p)
-    reader-kept t k l p h m o K =
+  module _ (F : Fits tab) (y : s < tab .signals) (P : ℕ → ℕ → ℕ → A → Type 0) (S : Steps P) where
+    -- of the tasks that close at t + 1 only the one that publishes signal s matters
+    closings-are : (t : ℕ) (a : A) (n : ℕ) → t < hyper tab → n ≤ tab .tasks
+        → through f a (gather n (λ k. only (eqb (closes tab k (instance tab k t)) (suc t)) (closingNumber (suc t) k)))
+        ≡ maybe (highest (λ k. tab .writes s k && eqb (closes tab k (instance tab k t)) (suc t)) n) a (λ k. publishes a k t)
+    unfolding through gather highest
+    closings-are t a zero h l = refl
+    closings-are t a (suc n) h l =
+        let r = closings-are t a n h (omega arith) in
+        through-append f a (gather n (λ k. only (eqb (closes tab k (instance tab k t)) (suc t)) (closingNumber (suc t) k))) _
+        ∙ split (eqb (closes tab n (instance tab n t)) (suc t))
+        (λ c. split (tab .writes s n)
+        (λ w. rw (c, w, S .closing (through f a (gather n (λ k. only (eqb (closes tab k (instance tab k t)) (suc t)) (closingNumber (suc t) k)))) t n (omega (arith, F .few-tasks)), w, r, alone w c))
+        (λ w. rw (c, w, S .closing (through f a (gather n (λ k. only (eqb (closes tab k (instance tab k t)) (suc t)) (closingNumber (suc t) k)))) t n (omega (arith, F .few-tasks)), w) r))
+        (λ c. split (tab .writes s n) (λ w. rw (c, w) r) (λ w. rw (c, w) r))
+      where
+        alone : tab .writes s n ≡ true → eqb (closes tab n (instance tab n t)) (suc t) ≡ true → highest (λ k. tab .writes s k && eqb (closes tab k (instance tab k t)) (suc t)) n ≡ none
+        alone w c =
+            splitOption (highest (λ k. tab .writes s k && eqb (closes tab k (instance tab k t)) (suc t)) n)
+            (λ e. e)
+            (λ k e.
+            let (a, b) = highest-some _ n k e in
+            let (d, f) = both (tab .writes s k) (eqb (closes tab k (instance tab k t)) (suc t)) b in
+            let m : k < tab .tasks = omega arith in
+            let z = F .single s y k n (instance tab k t) (instance tab n t) m l (holds d) (holds w) (instance-lt tab F k t m h) (instance-lt tab F n t l h)
+            (eqb-true (closes tab k (instance tab k t)) (suc t) f ∙ sym (eqb-true (closes tab n (instance tab n t)) (suc t) c)) in
+            absurd (omega arith))
+
+    reader-kept : (t k l : ℕ) (a : A) → t < hyper tab → k < tab .tasks → opens tab k (instance tab k t) ≡ t → P t k l a → P t (suc k) l (cond (tab .reads s k) (reads a k t) a)
+    reader-kept t k l a h m o K =
         split (tab .reads s k)
-        (λ r. rw r (reader-opens tab F E s y t k l p h m o (holds r) K))
-        (λ r. rw r (no-reader tab F E s y t k l p h m (λ i e x. not-both (is (tab .reads s k) (x .1)) r) K))
+        (λ r. rw r (S .reader t k l a h m o (holds r) K))
+        (λ r. rw r (S .no-reader t k l a h m (λ i e x. not-both (is (tab .reads s k) x) r) K))
 
-    writer-kept : (t k l : ℕ) (p : Pass) → t < hyper tab → k < tab .tasks → opens tab k (instance tab k t) ≡ t → Kept tab F E s y t l k p
-        → Kept tab F E s y t l (suc k) (cond (tab .writes s k) (writerOpens tab E s p k t) p)
-    writer-kept t k l p h m o K =
+    writer-kept : (t k l : ℕ) (a : A) → t < hyper tab → k < tab .tasks → opens tab k (instance tab k t) ≡ t → P t l k a → P t l (suc k) (cond (tab .writes s k) (writes a k t) a)
+    writer-kept t k l a h m o K =
         split (tab .writes s k)
-        (λ w. rw w (writer-opens tab F E s y t k l p h m o (holds w) (low (by s k (instance tab k t)) (y, m, holds w, instance-lt tab F k t m h) refl) K))
-        (λ w. rw w (no-writer tab F E s y t k l p h m (λ i e x. not-both (is (tab .writes s k) (x .2)) w) K))
+        (λ w. rw w (S .writer t k l a h m o (holds w) K))
+        (λ w. rw w (S .no-writer t k l a h m (λ i e x. not-both (is (tab .writes s k) x) w) K))
 
-    opening-kept : (t k : ℕ) (p : Pass) → t < hyper tab → k < tab .tasks → Kept tab F E s y t k k p
-        → Kept tab F E s y t (suc k) (suc k) (through (handled tab E s) p (only (eqb (opens tab k (instance tab k t)) t) (openingNumber t k)))
+    opening-kept : (t k : ℕ) (a : A) → t < hyper tab → k < tab .tasks → P t k k a → P t (suc k) (suc k) (through f a (only (eqb (opens tab k (instance tab k t)) t) (openingNumber t k)))
     unfolding through
-    opening-kept t k p h m K =
+    opening-kept t k a h m K =
         split (eqb (opens tab k (instance tab k t)) t)
         (λ q. let o = eqb-true (opens tab k (instance tab k t)) t q in
-        rw (q, handled-opening tab E s p t k (omega (arith, F .few-tasks)))
-        (writer-kept t k (suc k) (cond (tab .reads s k) (readerOpens tab E s p k t) p) h m o (reader-kept t k k p h m o K)))
+        rw (q, S .opening a t k (omega (arith, F .few-tasks)))
+        (writer-kept t k (suc k) (cond (tab .reads s k) (reads a k t) a) h m o (reader-kept t k k a h m o K)))
         (λ q.
         let none : (i : ℕ) → opens tab k i ≡ t → ⊥ = λ i e. eqb-false (opens tab k (instance tab k t)) t q (subst (λ j. opens tab k j ≡ t) (opens-instance tab F k i t m e) e) in
-        rw q (no-writer tab F E s y t k (suc k) p h m (λ i e x. none i e) (no-reader tab F E s y t k k p h m (λ i e x. none i e) K)))
+        rw q (S .no-writer t k (suc k) a h m (λ i e x. none i e) (S .no-reader t k k a h m (λ i e x. none i e) K)))
 
-    closings-kept : (t : ℕ) (p : Pass) → t < hyper tab → Kept tab F E s y t (tab .tasks) (tab .tasks) p → Kept tab F E s y (suc t) 0 0 (through (handled tab E s) p (closingsAfter tab t))
+    closings-kept : (t : ℕ) (a : A) → t < hyper tab → P t (tab .tasks) (tab .tasks) a → P (suc t) 0 0 (through f a (closingsAfter tab t))
     unfolding publisher
-    closings-kept t p h K =
-        rw (closings-are t p (tab .tasks) h (omega arith))
-        (splitOption (publisher tab s t)
-        (λ n. rw n (nothing-closes tab F E s y t p h K n))
-        (λ k n. rw n (writer-closes tab F E s y t p h K k n (low (bound tab s t) (bound-value tab F s y t (omega arith)) (bound-signal tab s t)))))
+    closings-kept t a h K =
+        rw (closings-are t a (tab .tasks) h (omega arith))
+        (splitOption (publisher tab s t) (λ n. rw n (S .silent t a h n K)) (λ k n. rw n (S .published t k a h n K)))
 
-    swept : Kept tab F E s y (hyper tab) 0 0 (sweep tab E s)
-    unfolding sweep events
-    swept =
-        through-gather (handled tab E s) (λ t p. Kept tab F E s y t 0 0 p) (λ t. openingsAt tab t ++ closingsAfter tab t) (started tab E s) (hyper tab) (at-start tab F E s y)
-        (λ t p h K. rw (through-append (handled tab E s) p (openingsAt tab t) (closingsAfter tab t))
-        (closings-kept t (through (handled tab E s) p (openingsAt tab t)) h
-        (through-gather (handled tab E s) (λ k q. Kept tab F E s y t k k q) (λ k. only (eqb (opens tab k (instance tab k t)) t) (openingNumber t k)) p (tab .tasks) K
+    -- it keeps it to the end of the hyper-period
+    pub passed : (a : A) → P 0 0 0 a → P (hyper tab) 0 0 (through f a (events tab))
+    unfolding events
+    passed a z =
+        through-gather f (λ t p. P t 0 0 p) (λ t. openingsAt tab t ++ closingsAfter tab t) a (hyper tab) z
+        (λ t p h K. rw (through-append f p (openingsAt tab t) (closingsAfter tab t))
+        (closings-kept t (through f p (openingsAt tab t)) h
+        (through-gather f (λ k q. P t k k q) (λ k. only (eqb (opens tab k (instance tab k t)) t) (openingNumber t k)) p (tab .tasks) K
         (λ k q m. opening-kept t k q h m))))
+
+-- ---- the check's pass
+
+module _ (tab : Table) (F : Fits tab) (E : Schedule) (s : ℕ) (y : s < tab .signals) (low : (v : Value) → IsValue tab v → signalOf v ≡ s → elementOf E v < most tab) where
+  checked : Steps tab s (handled tab E s) (readerOpens tab E s) (writerOpens tab E s) (writerCloses tab E s) (Kept tab F E s y)
+  checked = record {
+    opening = λ p t k h. handled-opening tab E s p t k h;
+    closing = λ p t k h. handled-closing tab E s p t k h;
+    no-reader = λ t k l p h m f K. no-reader tab F E s y t k l p h m (λ i e x. f i e (x .1)) K;
+    reader = λ t k l p h m o r K. reader-opens tab F E s y t k l p h m o r K;
+    no-writer = λ t k l p h m f K. no-writer tab F E s y t k l p h m (λ i e x. f i e (x .2)) K;
+    writer = λ t k l p h m o w K. writer-opens tab F E s y t k l p h m o w (low (by s k (instance tab k t)) (y, m, w, instance-lt tab F k t m h) refl) K;
+    silent = λ t p h n K. nothing-closes tab F E s y t p h K n;
+    published = λ t k p h n K. writer-closes tab F E s y t p h K k n (low (bound tab s t) (bound-value tab F s y t (omega arith)) (bound-signal tab s t));
+  }
+
+  swept : Kept tab F E s y (hyper tab) 0 0 (sweep tab E s)
+  unfolding sweep
+  swept = passed tab s (handled tab E s) (readerOpens tab E s) (writerOpens tab E s) (writerCloses tab E s) F y (Kept tab F E s y) checked (started tab E s) (at-start tab F E s y)
 
 -- ---- at the end
 
@@ -147,6 +175,16 @@ module _ (tab : Table) where
     where
       itself : Opened tab (opens tab j i) j j i → ⊥
       itself o = ⊎-elim (λ l. omega arith) (λ e. omega arith) o
+
+  -- values that are apart find their elements free
+  pub apart-free : (F : Fits tab) (E : Schedule) (s : ℕ) (y : s < tab .signals)
+      → ((u v : Value) (t : ℕ) → IsValue tab u → IsValue tab v → signalOf u ≡ s → signalOf v ≡ s → Live tab u t → Live tab v t → elementOf E u ≡ elementOf E v → u ≡ v)
+      → (t k : ℕ) → Free tab F E s y t k
+  apart-free F E s y apart t k u v x z a b c d e =
+      let f = before-other u v d in
+      split (leb (until tab u) (opening tab v))
+      (λ q. leb-true (until tab u) (opening tab v) q)
+      (λ q. absurd (f .1 (apart u v (opening tab v) x z a b (f .0, leb-false (until tab u) (opening tab v) q) (omega arith, live-begins tab F v z) e)))
 
   pub sweep-exact : SweepExact tab
   sweep-exact F E s y low =
@@ -162,14 +200,7 @@ module _ (tab : Table) where
                   c)
                   (order tab F u v x z (a ∙ sym b));
             }),
-        λ P. K .exact .1 (
-          (λ j i o r. P .binds j i (r .0) (r .1) (r .2)),
-          λ u v x z a b c d e.
-              let f = before-other u v d in
-              split (leb (until tab u) (opening tab v))
-              (λ q. leb-true (until tab u) (opening tab v) q)
-              (λ q. absurd (f .1 (P .apart u v (opening tab v) x z a b (f .0, leb-false (until tab u) (opening tab v) q) (omega arith, live-begins tab F v z) e))),
-        ),
+        λ P. K .exact .1 ((λ j i o r. P .binds j i (r .0) (r .1) (r .2)), apart-free F E s y (P .apart) (hyper tab) 0),
       )
     where
       ends : (k i : ℕ) → k < tab .tasks → i < instances tab k → opens tab k i < hyper tab
