@@ -13,13 +13,12 @@ use Rattle.rules.specs.Records.{End}
 use Rattle.rules.specs.Answers.{tableSays}
 use Rattle.rules.specs.Reading.{TableSaid, tableOf, gridIn, tableIn, endOf, readSays, verdict, hyperRead, tableRead}
 use Rattle.theory.specs.First.{FirstBroken, tableRules, BrokenTable, tableTold}
-use Rattle.theory.specs.TableBytes.{SameTable, Wide, AreBytes}
+use Rattle.theory.specs.TableBytes.{SameTable, Wide}
 use Rattle.theory.proofs.Proved.{table-accepted-exactly, table-reads-back, table-says-first, whatever-is-read-keeps}
 use Rattle.theory.proofs.Same.{same-hyper}
 use Rattle.table.specs.declared.reading.TableRead.{TableRead}
-use Rattle.table.specs.Said.{tableSaid}
 use Rattle.table.proofs.Exact.{table-exact, answer-says}
-use Rattle.promises.specs.Tables.{Gives, ReadExactly, TablesExactly}
+use Rattle.promises.specs.Tables.{Gives, TablesExactly}
 
 -- what reading says, by how the records end
 refusal : (bytes : List ℕ) (t : Told) → endOf bytes ≡ End.refused t → readSays bytes ≡ t

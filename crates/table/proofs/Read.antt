@@ -1,8 +1,7 @@
 -- The sections one after the other, and the verdict on the whole, are what rules reads of the bytes.
-use mathlib.Core.Path.{_≡_, refl, sym, ap, subst, _∙_}
+use mathlib.Core.Path.{_≡_, sym, ap, _∙_}
 use mathlib.Core.List.{List}
 use Prim.Native.Nat.{ℕ}
-use Rattle.rules.specs.Windows.{Table}
 use Rattle.rules.specs.Numbers.{Told, told}
 use Rattle.rules.specs.Records.{End}
 use Rattle.rules.specs.Answers.{tableSays}
