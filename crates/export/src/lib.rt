@@ -1,23 +1,29 @@
-// The library for firmware: document 01's functions under C names. An answer crosses as its number and its place.
+// The library for firmware: document 01's functions under C names. Each gives back the number of its answer, and its place through the last parameter.
 ghost use mathlib.Core.Path.{_≡_};
+ghost use lib.ListN.{length};
 ghost use Rattle.rules.specs.Reading.{readSays};
+ghost use Rattle.plan.specs.Planning.{planTold, planOut};
 
-// The number of what reading a table says: 0, or 1 to 11.
+// Reading a table: 0, or 1 to 11.
 #[no_mangle]
-pub extern "C" fn press_table_number(table: &[u8]) -> u8
-    ensures { λ r. ⌜ r ≡ readSays (now (table .entry)) .number ⌝ }
+pub extern "C" fn press_table(table: &[u8], place: &mut usize) -> u8
+    ensures number { λ r. ⌜ r ≡ readSays (now (table .entry)) .number ⌝ }
+    ensures place { λ _. ⌜ now (place .exit) ≡ readSays (now (table .entry)) .place ⌝ }
 {
     let read = table::read_table(table);
     let answer = read.answer;
+    *place = answers::place(answer);
     answers::number(answer)
 }
 
-// The place of what reading a table says.
+// Planning a table into the lent buffer: 0 with the bytes planned, or 1 to 14.
 #[no_mangle]
-pub extern "C" fn press_table_place(table: &[u8]) -> usize
-    ensures { λ r. ⌜ r ≡ readSays (now (table .entry)) .place ⌝ }
+pub extern "C" fn press_plan(table: &[u8], out: &mut [u8], place: &mut usize) -> u8
+    ensures number { λ r. ⌜ r ≡ planTold (now (table .entry)) (length (now (out .entry))) .number ⌝ }
+    ensures place { λ _. ⌜ now (place .exit) ≡ planTold (now (table .entry)) (length (now (out .entry))) .place ⌝ }
+    ensures planned { λ _. ⌜ now (out .exit) ≡ planOut (now (table .entry)) (now (out .entry)) ⌝ }
 {
-    let read = table::read_table(table);
-    let answer = read.answer;
-    answers::place(answer)
+    let answer = plan::plan(table, out);
+    *place = answers::place(answer);
+    answers::number(answer)
 }
