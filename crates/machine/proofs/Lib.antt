@@ -4,3 +4,4 @@ pub mod Follows
 pub mod Simulates
 pub mod Listed
 pub mod Started
+pub mod Load

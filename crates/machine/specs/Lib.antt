@@ -3,4 +3,5 @@ pub mod Calls
 pub mod Fit
 pub mod Simulates
 pub mod Started
+pub mod Load
 pub mod Cases

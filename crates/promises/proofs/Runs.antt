@@ -1,0 +1,196 @@
+-- The machine runs as promised: specs/Runs.antt, proved.
+use Prim.Native.Nat.{ℕ}
+use mathlib.Core.Path.{_≡_, refl, sym, ap, ap₂, subst, _∙_}
+use mathlib.Core.Bool.{false}
+use mathlib.Core.List.{List, [], _∷_, _++_, map}
+use native.Mathlib.Omega.{arith}
+use borrow.Author.Tests.{eq-eqb, ne-eqb}
+use Rattle.rules.specs.Words.{when}
+use Rattle.rules.specs.Windows.{Table}
+use Rattle.rules.specs.Table.{Fits}
+use Rattle.rules.specs.Schedule.{Schedule, Passes}
+use Rattle.rules.specs.Numbers.{Told, told, tell, unfit}
+use Rattle.rules.specs.Bytes.{bytesOf, scheduleIn}
+use Rattle.rules.specs.Answers.{checkSays}
+use Rattle.rules.specs.Reading.{tableIn, readSays}
+use Rattle.rules.specs.Meaning.{Call, step, read, write, refused, past}
+use Rattle.rules.specs.Machine.{State, loaded, answer, after, run}
+use Rattle.rules.specs.Loading.{Request, load, call, loadSays, accepts, idle, on, reply, following, replies, Story, untold, since, telling}
+use Rattle.rules.specs.Loading as loading
+use Rattle.rules.specs.declared.Answer.{Answer}
+use Rattle.theory.specs.Promises.{Demand3}
+use Rattle.theory.proofs.Tests.{split}
+use Rattle.theory.proofs.Loads.{both-accepted, load-accepts}
+use Rattle.theory.proofs.Proved.{loadings-as-meant, machine-as-demanded, bytes-checked-exactly, whatever-is-read-keeps}
+use Rattle.fields.proofs.Told.{told-exact}
+use Rattle.machine.specs.declared.Machine.{Machine}
+use Rattle.machine.specs.declared.Stepped.{Stepped}
+use Rattle.machine.specs.declared.WordRead.{WordRead}
+use Rattle.machine.specs.Calls.{unloaded, fit, answered, wordRead, stepOf, readOf, writeOf}
+use Rattle.rows.specs.Fitness.{fitParts}
+use Rattle.machine.specs.Simulates.{Runs, Said, said, outcomeSaid, callSaid, callLeaves}
+use Rattle.machine.specs.Load.{loadLeaves}
+use Rattle.machine.proofs.Fit.{refused-leaves}
+use Rattle.machine.proofs.Simulates.{simulates}
+use Rattle.machine.proofs.Load.{loads-exact, loads-right}
+use Rattle.promises.specs.Runs.{Gives, loads, steps, reads, writes, Run, none, next, replySaid, storyOf, NextCall, RunsAsPromised, LoadsExactly}
+
+-- ---- what the contracts say of each request, as functions
+
+abbrev codeSaid : Machine → Request → Said
+codeSaid m (load table schedule) = said (loadSays table schedule) 0
+codeSaid m (call c) = callSaid m c
+
+abbrev codeLeaves : Machine → Request → Machine
+codeLeaves m (load table schedule) = loadLeaves m table schedule
+codeLeaves m (call c) = callLeaves m c
+
+gives-said : (m : Machine) (e : Request) (a : Said) (n : Machine) → Gives m e a n → (a ≡ codeSaid m e) × (n ≡ codeLeaves m e)
+gives-said m e a n (loads table schedule r f) = (ap (λ (t : Told). said t 0) (f .0), f .1)
+gives-said m e a n (steps r f) = (ap (λ (x : Stepped). said (told (x .answer)) 0) f, ap (λ (x : Stepped). x .machine) f)
+gives-said m e a n (reads k s r f) = (ap (λ (x : WordRead). said (told (x .answer)) (x .word)) f, refl)
+gives-said m e a n (writes k s w r f) = (ap (λ (x : Stepped). said (told (x .answer)) 0) f, ap (λ (x : Stepped). x .machine) f)
+
+-- ---- one call more
+
+run-snoc : (tab : Table) (E : Schedule) (cs : List Call) (st : State) (c : Call) → run tab E st (cs ++ c ∷ []) ≡ after tab E (run tab E st cs) c
+unfolding run
+run-snoc tab E [] st c = refl
+run-snoc tab E (d ∷ cs) st c = run-snoc tab E cs (after tab E st d) c
+
+past-snoc : (cs h : List Call) (c : Call) → past h (cs ++ c ∷ []) ≡ c ∷ past h cs
+unfolding past
+past-snoc [] h c = refl
+past-snoc (d ∷ cs) h c = past-snoc cs (d ∷ h) c
+
+-- ---- the machine stands where document 01's machine and the story stand
+
+data Stands : Machine → loading.Running → Story → Type 0 where
+  fresh : (m : Machine) → m ≡ unloaded → Stands m idle untold
+  going : (tab : Table) (E : Schedule) (F : Fits tab) (A : Passes tab E) (cs : List Call) (m : Machine) → Runs tab E (run tab E (loaded tab E) cs) m
+      → Stands m (on tab E (run tab E (loaded tab E) cs)) (since tab (past [] cs))
+
+-- before the first accepted loading every call is refused with 25
+unfit-said : (c : Call) → (callSaid unloaded c ≡ outcomeSaid (refused unfit)) × (callLeaves unloaded c ≡ unloaded)
+unfolding stepOf readOf writeOf fit fitParts when
+unfit-said step = (refl, refl)
+unfit-said (read k s) = (refl, refl)
+unfit-said (write k s w) = (refl, refl)
+
+refused-stays : (m : Machine) (table schedule : List ℕ) → accepts table schedule ≡ false → loadLeaves m table schedule ≡ m
+unfolding loadLeaves
+refused-stays m table schedule q = rw q
+
+right-said : (e : Request) (m : Machine) (r : loading.Running) (h : Story) → Stands m r h → codeSaid m e ≡ replySaid (reply r e)
+unfolding reply
+right-said (load table schedule) m r h S = refl
+right-said (call c) m idle untold (fresh n e) = ap (λ x. callSaid x c) e ∙ unfit-said c .0
+right-said (call c) m (on t G st) (since u g) (going tab E F A cs n R) = simulates tab E F A (run tab E (loaded tab E) cs) m R c .0
+
+stands-after : (e : Request) (m : Machine) (r : loading.Running) (h : Story) → Stands m r h → Stands (codeLeaves m e) (following r e) (telling h e)
+unfolding following telling run past
+stands-after (load table schedule) m r h S =
+    let tab = tableIn table in
+    let E = scheduleIn tab schedule in
+    split (accepts table schedule)
+    (λ q. let (F, A) = load-accepts table schedule q in rw q (going tab E F A [] (loadLeaves m table schedule) (loads-right m table schedule q)))
+    (λ q. rw (q, refused-stays m table schedule q) S)
+stands-after (call c) m idle untold (fresh n e) = fresh (callLeaves m c) (ap (λ x. callLeaves x c) e ∙ unfit-said c .1)
+stands-after (call c) m (on t G st) (since u g) (going tab E F A cs n R) =
+    rw (← run-snoc tab E cs (loaded tab E) c, ← past-snoc cs [] c)
+    (going tab E F A (cs ++ c ∷ []) (callLeaves m c) (rw (run-snoc tab E cs (loaded tab E) c) (simulates tab E F A (run tab E (loaded tab E) cs) m R c .1)))
+
+stands-run : (es : List Request) (rs : List Said) (m n : Machine) (r : loading.Running) (h : Story) → Stands m r h → Run m es rs n
+    → (rs ≡ map replySaid (replies r es)) × ((q : loading.Running) × Stands n q (storyOf h es))
+unfolding replies storyOf
+stands-run [] [] m n r h S (none k) = (refl, (r, S))
+stands-run (f ∷ fs) (b ∷ bs) m n r h S (next l k o e a es rs g R) =
+    let (x, y) = gives-said m e a k g in
+    let (p, q) = stands-run es rs k n (following r e) (telling h e) (subst (λ z. Stands z (following r e) (telling h e)) (sym y) (stands-after e m r h S)) R in
+    (ap₂ _∷_ (x ∙ right-said e m r h S) p, q)
+
+-- ---- the next call, in the demand's words
+
+-- what is said determines the answer
+one-answer : (a b : Answer) (v w : ℕ) → said (told a) v ≡ said (told b) w → a ≡ b
+one-answer a b v w e = told-exact a b (ap (λ (x : Said). x .told) e)
+
+one-word : (r : WordRead) (a : Answer) (w : ℕ) → said (told (r .answer)) (r .word) ≡ said (told a) w → r ≡ wordRead a w
+one-word r a w e = λ i. record { answer = one-answer (r .answer) a (r .word) w e i; word = e i .word }
+
+-- a refusal leaves the machine
+one-refusal : (m : Machine) (k s w : ℕ) (a : Answer) → (a ≡ Answer.Done 0 → ⊥) → writeOf m k s w .answer ≡ a → writeOf m k s w ≡ answered a m
+one-refusal m k s w a n e = λ i. record { answer = e i; machine = refused-leaves m .write k s w (λ z. n (sym e ∙ z)) i }
+
+going-on : (tab : Table) (E : Schedule) → Fits tab → Passes tab E → (cs : List Call) (m : Machine) → Runs tab E (run tab E (loaded tab E) cs) m → NextCall tab (past [] cs) m
+going-on tab E F A cs m R =
+    record {
+      ready = R .fits;
+      read-inside = λ k s i p o. one-word (readOf m k s) _ _ (says (read k s) ∙ ap outcomeSaid (D .read-inside k s i p o));
+      write-inside = λ k s w i p o. one-answer _ (Answer.Done 0) _ 0 (says (write k s w) ∙ ap outcomeSaid (D .write-inside k s w i p o));
+      steps = one-answer _ (Answer.Done 0) _ 0 (says step ∙ ap outcomeSaid (D .steps));
+      read-outside = λ k s p o. one-word (readOf m k s) _ _ (says (read k s) ∙ ap outcomeSaid (D .read-outside k s p o));
+      write-outside = λ k s w p o. one-refusal m k s w _ outside-refuses (one-answer _ Answer.Outside _ 0 (says (write k s w) ∙ ap outcomeSaid (D .write-outside k s w p o)));
+      read-unknown = λ k s n. one-word (readOf m k s) _ _ (says (read k s) ∙ ap outcomeSaid (D .read-unknown k s n));
+      write-unknown = λ k s w n. one-refusal m k s w _ unknown-refuses (one-answer _ Answer.NoAccess _ 0 (says (write k s w) ∙ ap outcomeSaid (D .write-unknown k s w n)));
+    }
+  where
+    D : Demand3 tab E cs
+    D = machine-as-demanded tab F E A cs
+
+    says : (c : Call) → callSaid m c ≡ outcomeSaid (answer tab E (run tab E (loaded tab E) cs) c)
+    says c = simulates tab E F A (run tab E (loaded tab E) cs) m R c .0
+
+    outside-refuses : Answer.Outside ≡ Answer.Done 0 → ⊥
+    outside-refuses e = let z : _≡_ {A = ℕ} 0 1 = cc in omega arith
+
+    unknown-refuses : Answer.NoAccess ≡ Answer.Done 0 → ⊥
+    unknown-refuses e = let z : _≡_ {A = ℕ} 0 1 = cc in omega arith
+
+Promised : Machine → Story → Type 0
+Promised m untold = m ≡ unloaded
+Promised m (since tab h) = NextCall tab h m
+
+stands-promised : (m : Machine) (r : loading.Running) (h : Story) → Stands m r h → Promised m h
+unfolding Promised
+stands-promised m idle untold (fresh n e) = e
+stands-promised m (on t G st) (since u g) (going tab E F A cs n R) = going-on tab E F A cs m R
+
+pub runs-as-promised : RunsAsPromised
+unfolding Promised
+runs-as-promised es rs m R =
+    let (q, (r, S)) = stands-run es rs unloaded m idle untold (fresh unloaded refl) R in
+    let p = stands-promised m r (storyOf untold es) S in
+    record {
+      answers = q ∙ ap (map replySaid) (loadings-as-meant es);
+      running = λ tab h e. subst (Promised m) e p;
+      untouched = λ e. subst (Promised m) e p;
+    }
+
+-- ---- loading
+
+module _ (table schedule : List ℕ) where
+  read-first : readSays table .number ≡ 0 → loadSays table schedule ≡ checkSays (tableIn table) schedule
+  unfolding loadSays when
+  read-first e = rw (eq-eqb (readSays table .number) 0 e)
+
+  passing-done : readSays table .number ≡ 0 → (E : Schedule) → Passes (tableIn table) E → schedule ≡ bytesOf (tableIn table) E → loadSays table schedule ≡ tell 0 0
+  passing-done e E A b = read-first e ∙ ap (checkSays (tableIn table)) b ∙ bytes-checked-exactly (tableIn table) (whatever-is-read-keeps table .accepted e) .complete E A
+
+  done-passing : loadSays table schedule .number ≡ 0 → (readSays table .number ≡ 0) × ((E : Schedule) × Passes (tableIn table) E × (schedule ≡ bytesOf (tableIn table) E))
+  done-passing e =
+      let (x, y) = both-accepted table schedule (eq-eqb (loadSays table schedule .number) 0 e) in
+      let (b, A) = bytes-checked-exactly (tableIn table) (whatever-is-read-keeps table .accepted x) .sound schedule y in
+      (x, (scheduleIn (tableIn table) schedule, A, b))
+
+pub loads-exactly : LoadsExactly
+loads-exactly m table schedule r f =
+    record {
+      accepted = (λ e. done-passing table schedule (number e), λ (e, (E, A, b)). ap (λ (t : Told). t .number) (f .0 ∙ passing-done table schedule e E A b));
+      done = λ e. let (x, (E, A, b)) = done-passing table schedule (number e) in told-exact (r .answer) (Answer.Done 0) (f .0 ∙ passing-done table schedule x E A b);
+      refused = λ n. f .1 ∙ refused-stays m table schedule (ne-eqb (loadSays table schedule .number) 0 (λ e. n (ap (λ (t : Told). t .number) (f .0) ∙ e)));
+      one = λ q g. loads-exact m table schedule q r g f;
+    }
+  where
+    number : told (r .answer) .number ≡ 0 → loadSays table schedule .number ≡ 0
+    number e = sym (ap (λ (t : Told). t .number) (f .0)) ∙ e

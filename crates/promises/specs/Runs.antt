@@ -1,0 +1,87 @@
+-- Demand 3, about `machine::Machine`: after loading any table with any schedule that passes, no permitted read or write inside its window is refused,
+-- and each read gives the value that its signal had when the reader's window opened. proofs/Runs.antt proves it. Assumes nothing.
+use Prim.Native.Nat.{ℕ}
+use mathlib.Core.Path.{_≡_}
+use mathlib.Core.Bool.{true}
+use mathlib.Core.List.{List, [], _∷_, map}
+use mathlib.Core.Logic.{_↔_}
+use Rattle.rules.specs.Windows.{Table, opens, isOpen}
+use Rattle.rules.specs.Schedule.{Schedule, Passes}
+use Rattle.rules.specs.Numbers.{told, allDone}
+use Rattle.rules.specs.Bytes.{bytesOf}
+use Rattle.rules.specs.Reading.{tableIn, readSays}
+use Rattle.rules.specs.Meaning.{Call, step, read, write, now, valueAt}
+use Rattle.rules.specs.Loading.{Request, load, call, Reply, Story, untold, since, telling, meantReplies}
+use Rattle.rules.specs.declared.Answer.{Answer}
+use Rattle.theory.specs.Promises.{Permitted}
+use Rattle.machine.specs.declared.Machine.{Machine}
+use Rattle.machine.specs.declared.Stepped.{Stepped}
+use Rattle.machine.specs.declared.WordRead.{WordRead}
+use Rattle.machine.specs.Calls.{unloaded, fit, answered, wordRead, stepOf, readOf, writeOf}
+use Rattle.machine.specs.Simulates.{Said, said, outcomeSaid}
+use Rattle.machine.specs.Load.{Loads}
+
+-- ---- what is called
+
+-- m.load, m.step, m.read and m.write, each by its contract: what was asked, the number, place and word that it said, and the machine after it.
+pub data Gives (m : Machine) : Request → Said → Machine → Type 0 where
+  loads : (table schedule : List ℕ) (r : Stepped) → Loads m table schedule r → Gives m (load table schedule) (said (told (r .answer)) 0) (r .machine)
+  steps : (r : Stepped) → r ≡ stepOf m → Gives m (call step) (said (told (r .answer)) 0) (r .machine)
+  reads : (task signal : ℕ) (r : WordRead) → r ≡ readOf m task signal → Gives m (call (read task signal)) (said (told (r .answer)) (r .word)) m
+  writes : (task signal word : ℕ) (r : Stepped) → r ≡ writeOf m task signal word → Gives m (call (write task signal word)) (said (told (r .answer)) 0) (r .machine)
+
+-- Requests of any kind in any order, each of the machine that the one before left.
+pub data Run : Machine → List Request → List Said → Machine → Type 0 where
+  none : (m : Machine) → Run m [] [] m
+  next : (m n o : Machine) (e : Request) (a : Said) (es : List Request) (rs : List Said) → Gives m e a n → Run n es rs o → Run m (e ∷ es) (a ∷ rs) o
+
+-- ---- what is promised
+
+-- the number, place and word of a reply
+abbrev pub replySaid : Reply → Said
+replySaid (Reply.told t) = said t 0
+replySaid (Reply.said o) = outcomeSaid o
+
+-- the table that was loaded last, with the calls since then: a refused loading is none of them
+unfoldable pub storyOf : Story → List Request → Story
+storyOf h [] = h
+storyOf h (e ∷ es) = storyOf (telling h e) es
+
+-- What the next call of m says, where `tab` was loaded last and h are the calls since then, the newest first.
+pub record NextCall (tab : Table) (h : List Call) (m : Machine) : Type 0 where
+  -- 25 is not given: the state is fit.
+  pub ready : fit m ≡ true
+  -- A permitted read inside its window is not refused, and gives the value that the signal had when the window opened.
+  pub read-inside : (k s i : ℕ) → Permitted tab (tab .reads) k s → isOpen tab k i (now h) ≡ true → readOf m k s ≡ wordRead (Answer.Done 0) (valueAt tab h s (opens tab k i))
+  -- A permitted write inside its window is not refused, and no step is.
+  pub write-inside : (k s w i : ℕ) → Permitted tab (tab .writes) k s → isOpen tab k i (now h) ≡ true → writeOf m k s w .answer ≡ Answer.Done 0
+  pub steps : stepOf m .answer ≡ Answer.Done 0
+  -- Outside its window either is refused with 24, and without such an access with 23; the machine stays as it was.
+  pub read-outside : (k s : ℕ) → Permitted tab (tab .reads) k s → ((i : ℕ) → isOpen tab k i (now h) ≡ true → ⊥) → readOf m k s ≡ wordRead Answer.Outside 0
+  pub write-outside : (k s w : ℕ) → Permitted tab (tab .writes) k s → ((i : ℕ) → isOpen tab k i (now h) ≡ true → ⊥) → writeOf m k s w ≡ answered Answer.Outside m
+  pub read-unknown : (k s : ℕ) → (Permitted tab (tab .reads) k s → ⊥) → readOf m k s ≡ wordRead Answer.NoAccess 0
+  pub write-unknown : (k s w : ℕ) → (Permitted tab (tab .writes) k s → ⊥) → writeOf m k s w ≡ answered Answer.NoAccess m
+
+-- After the requests es, answered by rs, the machine is m.
+pub record AsPromised (es : List Request) (rs : List Said) (m : Machine) : Type 0 where
+  -- All answers are those that the bytes loaded and the calls since then determine, with no word of elements, schedules or hyper-periods.
+  pub answers : rs ≡ map replySaid (meantReplies untold es)
+  -- So it goes on with the next call,
+  pub running : (tab : Table) (h : List Call) → storyOf untold es ≡ since tab h → NextCall tab h m
+  -- and nothing has happened to the machine where no loading was accepted yet.
+  pub untouched : storyOf untold es ≡ untold → m ≡ unloaded
+
+-- So it is for all requests, from `Machine::new` on.
+abbrev pub RunsAsPromised : Type 0
+RunsAsPromised = (es : List Request) (rs : List Said) (m : Machine) → Run unloaded es rs m → AsPromised es rs m
+
+-- A loading is accepted exactly where the table is, and the schedule's bytes are those of one that passes; a refused one leaves the machine as it was.
+pub record LoadedExactly (m : Machine) (table schedule : List ℕ) (r : Stepped) : Type 0 where
+  pub accepted : (told (r .answer) .number ≡ allDone) ↔ ((readSays table .number ≡ allDone) × ((E : Schedule) × Passes (tableIn table) E × (schedule ≡ bytesOf (tableIn table) E)))
+  pub done : told (r .answer) .number ≡ allDone → r .answer ≡ Answer.Done 0
+  pub refused : (told (r .answer) .number ≡ allDone → ⊥) → r .machine ≡ m
+  -- No other result meets the contract.
+  pub one : (q : Stepped) → Loads m table schedule q → q ≡ r
+
+abbrev pub LoadsExactly : Type 0
+LoadsExactly = (m : Machine) (table schedule : List ℕ) (r : Stepped) → Loads m table schedule r → LoadedExactly m table schedule r
