@@ -8,6 +8,7 @@ pub use lengths::length;
 pub use sides::Side;
 pub use sides::instances_of;
 pub use sides::mark_of;
+pub use sides::permitted;
 pub use sides::users;
 
 // The bytes of each record with its mark.

@@ -44,11 +44,11 @@ total-within f (suc n) k h =
 
 module _ (tab : Table) (s : ℕ) where
   -- records have 7 bytes
-  writer-step : (k i : ℕ) → startOf tab (wi s k i) + 6 ≡ startOf tab (wi s k 0) + 6 + 7 * i
+  pub writer-step : (k i : ℕ) → startOf tab (wi s k i) + 6 ≡ startOf tab (wi s k 0) + 6 + 7 * i
   unfolding startOf
   writer-step k i = omega arith
 
-  reader-step : (k i : ℕ) → startOf tab (ri s k i) + 6 ≡ startOf tab (ri s k 0) + 6 + 7 * i
+  pub reader-step : (k i : ℕ) → startOf tab (ri s k i) + 6 ≡ startOf tab (ri s k 0) + 6 + 7 * i
   unfolding startOf
   reader-step k i = omega arith
 
@@ -59,11 +59,11 @@ module _ (tab : Table) (s : ℕ) where
       let b : times (allowed k) (instances tab k) ≡ instances tab k = rw w in
       omega (arith, total-within (λ k. times (allowed k) (instances tab k)) (tab .tasks) k h)
 
-  writer-inside : (k i : ℕ) → k < tab .tasks → tab .writes s k ≡ true → i < instances tab k → startOf tab (wi s k i) + 6 < total (sizeOf tab) (suc s)
+  pub writer-inside : (k i : ℕ) → k < tab .tasks → tab .writes s k ≡ true → i < instances tab k → startOf tab (wi s k i) + 6 < total (sizeOf tab) (suc s)
   unfolding startOf sizeOf writersBelow total
   writer-inside k i h w l = omega (arith, among (tab .writes s) k i h w l)
 
-  reader-inside : (k i : ℕ) → k < tab .tasks → tab .reads s k ≡ true → i < instances tab k → startOf tab (ri s k i) + 6 < total (sizeOf tab) (suc s)
+  pub reader-inside : (k i : ℕ) → k < tab .tasks → tab .reads s k ≡ true → i < instances tab k → startOf tab (ri s k i) + 6 < total (sizeOf tab) (suc s)
   unfolding startOf sizeOf readersBelow total
   reader-inside k i h w l = omega (arith, among (tab .reads s) k i h w l)
 

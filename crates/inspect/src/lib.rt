@@ -89,7 +89,7 @@ fn both(a: bool, b: bool) -> bool
 }
 
 // The element of instance i.
-fn element_at(schedule: &[u8], first: usize, i: u32) -> usize
+pub fn element_at(schedule: &[u8], first: usize, i: u32) -> usize
     requires { ⌜ Inside (now schedule) first i ⌝ }
     ensures { λ r. ⌜ r ≡ elementAt (now (schedule .entry)) first i ⌝ }
 {
@@ -265,7 +265,7 @@ fn row_from(
 }
 
 // The places of signal s, whose records begin at `start`.
-fn places_at(
+pub fn places_at(
     tasks: Tasks,
     h: u32,
     grid: &[[u8; MOST_SIGNALS]; MOST_TASKS],

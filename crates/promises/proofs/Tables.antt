@@ -17,7 +17,7 @@ use Rattle.theory.specs.TableBytes.{SameTable, Wide}
 use Rattle.theory.proofs.Proved.{table-accepted-exactly, table-reads-back, table-says-first, whatever-is-read-keeps}
 use Rattle.theory.proofs.Same.{same-hyper}
 use Rattle.table.specs.declared.reading.TableRead.{TableRead}
-use Rattle.table.proofs.Exact.{table-exact, answer-says}
+use Rattle.table.proofs.Exact.{table-exact, answer-says, table-is, hyper-read}
 use Rattle.promises.specs.Tables.{Gives, TablesExactly}
 
 -- what reading says, by how the records end
@@ -33,36 +33,15 @@ module _ (bytes : List ℕ) (r : TableRead) (g : Gives bytes r) where
   answer-is : told (r .answer) ≡ readSays bytes
   answer-is = answer-says bytes r g
 
-  table-is : tableOf (r .tasks) (r .signals) (gridIn bytes) ≡ tableIn bytes
-  unfolding tableRead tableIn
-  table-is =
-      ap (λ (t : TableSaid). tableOf (t .tasks) (t .signals) (gridIn bytes)) g
-
-  hyper-is : r .hyper ≡ hyperRead (tableIn bytes) (endOf bytes)
-  unfolding tableRead
-  hyper-is = ap (λ (t : TableSaid). t .hyper) g
-
   -- the table that was read, where the bytes are those of a table
   read-same : (tab : Table) → Fits tab → Wide tab → bytes ≡ encode tab → SameTable (tableIn bytes) tab
   read-same tab F w e = subst (λ (b : List ℕ). SameTable (tableIn b) tab) (sym e) (table-reads-back tab F w .1)
-
-  hyper-read : readSays bytes ≡ tell 0 0 → r .hyper ≡ hyper (tableIn bytes)
-  unfolding readSays verdict hyperRead
-  hyper-read e =
-      let (p, h) = whatever-is-read-keeps bytes .whole (ap (λ (t : Told). t .number) e) in
-      hyper-is ∙ ap (hyperRead (tableIn bytes)) h ∙ done-hyper (tableIn bytes) p (sym (ap (verdict (tableIn bytes)) h) ∙ said e)
-    where
-      said : readSays bytes ≡ tell 0 0 → verdict (tableIn bytes) (endOf bytes) ≡ tell 0 0
-      said x = x
-
-      done-hyper : (tab : Table) (p : ℕ) → verdict tab (End.at p) ≡ tell 0 0 → hyperRead tab (End.at p) ≡ hyper tab
-      done-hyper tab p z = ap (λ (t : Told). cond (eqb (t .number) allDone) (hyper tab) 0) z
 
 pub tables-exactly : TablesExactly
 tables-exactly bytes o r g = record {
   accepted = subst (λ (t : Told). (t .number ≡ allDone) ↔ ((tab : Table) × Fits tab × Wide tab × (bytes ≡ encode tab))) (sym (answer-is bytes r g)) (table-accepted-exactly bytes o);
   same = λ tab F w e. subst (λ (x : Table). SameTable x tab) (sym (table-is bytes r g)) (read-same bytes r g tab F w e);
-  period = λ tab F w e. hyper-read bytes r g (ap readSays e ∙ table-reads-back tab F w .0) ∙ same-hyper (tableIn bytes) tab (read-same bytes r g tab F w e);
+  period = λ tab F w e. hyper-read bytes r g (ap (λ (x : List ℕ). readSays x .number) e ∙ ap (λ (t : Told). t .number) (table-reads-back tab F w .0)) ∙ same-hyper (tableIn bytes) tab (read-same bytes r g tab F w e);
   record-refused = λ t e. answer-is bytes r g ∙ refusal bytes t e;
   whole-refused = λ p e. subst (FirstBroken (BrokenTable (tableIn bytes)) tableTold (tableRules (tableIn bytes))) (sym (answer-is bytes r g ∙ judged bytes p e)) (table-says-first (tableIn bytes));
   one = λ q h. table-exact q r (h ∙ sym g);
