@@ -26,8 +26,8 @@ fn flush_half(out: &[u8], bench: Bench) -> Bench {
 }
 
 // Answers the line that is held; the next begins.
-fn end_line(line: &[u8], kept: &mut [u8], out: &mut [u8], bench: Bench) -> Bench {
-    let answered = answer(front(line, bench.held), kept, out, bench);
+fn end_line(line: &[u8], kept: &mut [u8], lent: &mut [u8], out: &mut [u8], bench: Bench) -> Bench {
+    let answered = answer(front(line, bench.held), kept, lent, out, bench);
     let mut after = flush_half(out, answered);
     after.held = 0;
     after
@@ -39,6 +39,7 @@ fn take_line(
     n: usize,
     line: &mut [u8],
     kept: &mut [u8],
+    lent: &mut [u8],
     out: &mut [u8],
     bench: Bench,
 ) -> Bench {
@@ -47,13 +48,14 @@ fn take_line(
     if n == rest.len() {
         return longer;
     }
-    end_line(line, kept, out, longer)
+    end_line(line, kept, lent, out, longer)
 }
 
 fn take_piece(
     piece: &[u8],
     line: &mut [u8],
     kept: &mut [u8],
+    lent: &mut [u8],
     out: &mut [u8],
     bench: Bench,
 ) -> Bench {
@@ -62,7 +64,7 @@ fn take_piece(
     while at < piece.len() {
         let rest = &piece[at..];
         let n = before(rest, LINE_FEED);
-        after = take_line(rest, n, line, kept, out, after);
+        after = take_line(rest, n, line, kept, lent, out, after);
         at = at + n + 1;
     }
     after
@@ -72,6 +74,7 @@ fn read_some(
     piece: &mut [u8],
     line: &mut [u8],
     kept: &mut [u8],
+    lent: &mut [u8],
     out: &mut [u8],
     bench: Bench,
 ) -> Bench {
@@ -82,7 +85,7 @@ fn read_some(
         last.ended = true;
         return last;
     }
-    take_piece(&piece[..n], line, kept, out, bench)
+    take_piece(&piece[..n], line, kept, lent, out, bench)
 }
 
 // Nothing says that input ends, so the turns are counted down from a number that no run uses up.
@@ -96,7 +99,7 @@ fn turns_left(turns: u64, ended: bool) -> u64
     turns - 1
 }
 
-pub fn run(piece: &mut [u8], line: &mut [u8], kept: &mut [u8], out: &mut [u8]) {
+pub fn run(piece: &mut [u8], line: &mut [u8], kept: &mut [u8], lent: &mut [u8], out: &mut [u8]) {
     let mut bench = Bench {
         held: 0,
         kept: 0,
@@ -105,10 +108,10 @@ pub fn run(piece: &mut [u8], line: &mut [u8], kept: &mut [u8], out: &mut [u8]) {
     };
     let mut turns = u64::MAX;
     while turns > 0 {
-        bench = read_some(piece, line, kept, out, bench);
+        bench = read_some(piece, line, kept, lent, out, bench);
         turns = turns_left(turns, bench.ended);
     }
     // A last line without a line feed; an empty one answers nothing.
-    let last = end_line(line, kept, out, bench);
+    let last = end_line(line, kept, lent, out, bench);
     flush(out, last.waiting);
 }
