@@ -1,0 +1,3 @@
+pub mod Viewed
+pub mod Clashing
+pub mod Searched

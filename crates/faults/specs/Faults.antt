@@ -1,0 +1,103 @@
+-- The first record of a schedule that is wrong, as the code searches for it. Assumes nothing.
+use mathlib.Core.Path.{_≡_}
+use mathlib.Core.Bool.{Bool, true, false, not, _&&_}
+use mathlib.Core.List.{List}
+use Prim.Native.Nat.{ℕ, _≤_, _<_}
+use lib.Dec.{eqb, ltb}
+use lib.ListN.{length, getD}
+use Rattle.rules.specs.Words.{gather, times, every, when}
+use Rattle.rules.specs.Windows.{Table, hyper, instances}
+use Rattle.rules.specs.Values.{Value, by, opening, until}
+use Rattle.rules.specs.Table.{Fits}
+use Rattle.rules.specs.Schedule.{Schedule, elementOf}
+use Rattle.rules.specs.Bytes.{Part, startOf, scheduleLength, scheduleIn}
+use Rattle.rules.specs.Numbers.{Told, tell}
+use Rattle.rules.specs.Answers.{sentWrong, sharing}
+use Rattle.rules.specs.Reading.{Grid, tableOf}
+use Rattle.table.specs.declared.reading.TableRead.{TableRead}
+use Rattle.form.specs.declared.sides.Side.{Side}
+use Rattle.form.specs.Records.{permits, instanceParts}
+use Rattle.inspect.specs.Pass.{ArePlaces}
+use Rattle.inspect.specs.declared.Places.{Places}
+use Rattle.faults.specs.declared.Fault.{Fault}
+use Rattle.faults.specs.declared.View.{View}
+use Rattle.faults.specs.declared.lives.Held.{Held}
+
+-- ---- what a search has at hand
+
+abbrev pub readTable : TableRead → Grid → Table
+readTable read grid = tableOf (read .tasks) (read .signals) grid
+
+-- the table that was read keeps the rules, and the hyper-period is its own
+abbrev pub Accepted : TableRead → Grid → Type 0
+Accepted read grid = Fits (readTable read grid) × (read .hyper ≡ hyper (readTable read grid))
+
+abbrev pub viewTable : View → Grid → Table
+viewTable v grid = tableOf (v .tasks) (v .signals) grid
+
+abbrev pub viewSchedule : View → Grid → List ℕ → Schedule
+viewSchedule v grid bytes = scheduleIn (viewTable v grid) bytes
+
+-- an accepted table, one of its signals with its places, and bytes that reach to the end of the schedule
+pub record Seen (v : View) (grid : Grid) (bytes : List ℕ) : Type 0 where
+  pub fits : Fits (viewTable v grid)
+  pub period : v .hyper ≡ hyper (viewTable v grid)
+  pub signal : v .signal < v .signals .count
+  pub areat : ArePlaces (v .tasks) grid (v .signal) (v .places)
+  pub whole : scheduleLength (viewTable v grid) ≤ length bytes
+
+-- the signal has a record for instance i of task k
+abbrev pub Has : View → Grid → Side → ℕ → ℕ → Type 0
+Has v grid side k i = (k < v .tasks .count) × (permits grid side (v .signal) k ≡ true) × (i < instances (viewTable v grid) k)
+
+-- where the element of task k's first instance stands
+abbrev pub firstOf : Places → Side → ℕ → ℕ
+firstOf places Side.Writers k = getD (places .writers) k 0
+firstOf places Side.Readers k = getD (places .readers) k 0
+
+-- ---- records
+
+-- how many records task k has for signal s
+unfoldable pub recordsIn : Table → Grid → Side → ℕ → ℕ → ℕ
+recordsIn tab grid side s k = times (permits grid side s k) (instances tab k)
+
+-- the records of one side of signal s, of the tasks below n
+unfoldable pub sideOf : Table → Grid → Side → ℕ → ℕ → List Part
+sideOf tab grid side n s = gather n (λ k. instanceParts side s k (recordsIn tab grid side s k))
+
+-- 21 or 22
+abbrev pub wrongOf : Table → Schedule → Side → Part → Bool
+wrongOf tab E Side.Readers = sentWrong tab E
+wrongOf tab E Side.Writers = sharing tab E
+
+-- one record more: the first that is wrong stays
+abbrev pub seek : Table → (Part → Bool) → Part → Fault → Fault
+seek tab wrong x (Fault.At p) = Fault.At p
+seek tab wrong x Fault.Nowhere = when (wrong x) (Fault.At (startOf tab x)) Fault.Nowhere
+
+-- the answer with this number at the fault, else the rest
+abbrev pub placed : Fault → ℕ → Told → Told
+placed (Fault.At p) n rest = tell n p
+placed Fault.Nowhere n rest = rest
+
+-- ---- clashes
+
+abbrev pub heldOf : Table → Schedule → Value → Held
+heldOf tab E v = record { element = elementOf E v; from = opening tab v; until = until tab v }
+
+-- one element, and both live at some tick
+unfoldable pub clashing : Held → Held → Bool
+clashing a b =
+    when (eqb (a .element) (b .element))
+    (when (ltb (a .from) (b .until))
+    (ltb (b .from) (a .until))
+    false)
+    false
+
+-- no value of the first n instances of task k clashes with this one
+unfoldable pub apartFrom : Table → Schedule → ℕ → Held → ℕ → ℕ → Bool
+apartFrom tab E s held k n = every n (λ i. not (clashing (heldOf tab E (by s k i)) held))
+
+-- no value of an earlier WI does
+unfoldable pub apartFromEarlier : Table → Grid → Schedule → ℕ → Held → ℕ → ℕ → Bool
+apartFromEarlier tab grid E s held k i = every k (λ l. apartFrom tab E s held l (recordsIn tab grid Side.Writers s l)) && apartFrom tab E s held k i
