@@ -1,7 +1,7 @@
 -- A schedule whose form is right: its records are counted, and it passes exactly if no signal's pass meets a mistake.
 use mathlib.Core.Bool.{Bool, true}
 use mathlib.Core.List.{List}
-use mathlib.Core.Path.{_≡_, refl, sym, ap, _∙_}
+use mathlib.Core.Path.{_≡_, sym, ap, _∙_}
 use Prim.Native.Nat.{ℕ, _≤_}
 use native.Mathlib.Omega.{arith}
 use lib.Dec.{ltb, eqb}
@@ -11,8 +11,8 @@ use Rattle.rules.specs.Windows.{Table}
 use Rattle.rules.specs.Table.{Fits}
 use Rattle.rules.specs.Schedule.{room, base, Passes}
 use Rattle.rules.specs.Bytes.{parts, scheduleLength, scheduleIn}
-use Rattle.rules.specs.Numbers.{Told, tell, allDone}
-use Rattle.rules.specs.Answers.{wholeSays, checkSays}
+use Rattle.rules.specs.Numbers.{Told, tell, allDone, wrongReader, shared}
+use Rattle.rules.specs.Answers.{firstSays, sentWrong, sharing, wholeSays, checkSays}
 use Rattle.rules.specs.Reading.{Grid, tableOf}
 use Rattle.rules.specs.declared.Tasks.{Tasks}
 use Rattle.rules.specs.declared.Signals.{Signals}
@@ -23,6 +23,13 @@ use Rattle.form.specs.Form.{formSays}
 use Rattle.form.proofs.Parted.{check-rest}
 use Rattle.inspect.specs.Pass.{allSwept}
 use Rattle.inspect.proofs.Accepts.{accepts}
+use Rattle.faults.specs.declared.Fault.{Fault}
+use Rattle.faults.specs.Faults.{placed}
+use Rattle.judge.specs.Judged.{sharingSays}
+
+-- the number of an answer is that of what it says
+pub number-said : {n : ℕ} {t u : Told} → t ≡ u → n ≡ t .number → n ≡ allDone → u .number ≡ allDone
+number-said e h z = ap (λ (t : Told). t .number) (sym e) ∙ sym h ∙ z
 
 module _ (tab : Table) (bytes : List ℕ) (e : formSays tab bytes .number ≡ allDone) where
   pub form-counted : Counted tab (scheduleIn tab bytes) × (scheduleLength tab ≤ length bytes)
@@ -39,6 +46,21 @@ module _ (tab : Table) (bytes : List ℕ) (e : formSays tab bytes .number ≡ al
       check-rest tab bytes e
       ∙ sym (when-false (ltb (room tab) (base (scheduleIn tab bytes) (tab .signals))) _ _ (le-ltb (room tab) (base (scheduleIn tab bytes) (tab .signals)) (P .in-all)))
       ∙ whole-done tab F (scheduleIn tab bytes) P
+
+  -- a check that is done has place 0
+  pub form-done : Fits tab → {r : Bool} → r ≡ eqb (checkSays tab bytes .number) allDone → r ≡ true → tell allDone 0 ≡ checkSays tab bytes
+  form-done F q t = sym (form-passed F (check-sound tab bytes (eqb-true (checkSays tab bytes .number) allDone (sym q ∙ t)) .1))
+
+  -- 21, then 22
+  pub wrong-says : {r f : Fault} → ((n : ℕ) (rest : Told) → placed r n rest ≡ firstSays tab (sentWrong tab (scheduleIn tab bytes)) n (parts tab) rest) → r ≡ f
+      → placed f wrongReader (sharingSays tab bytes) ≡ checkSays tab bytes
+  unfolding sharingSays
+  wrong-says s q = ap (λ (f : Fault). placed f wrongReader (sharingSays tab bytes)) (sym q) ∙ s wrongReader (sharingSays tab bytes) ∙ sym (check-rest tab bytes e)
+
+pub shared-says : (tab : Table) (bytes : List ℕ) {r f : Fault} → ((n : ℕ) (rest : Told) → placed r n rest ≡ firstSays tab (sharing tab (scheduleIn tab bytes)) n (parts tab) rest) → r ≡ f
+    → placed f shared (tell allDone 0) ≡ sharingSays tab bytes
+unfolding sharingSays
+shared-says tab bytes s q = ap (λ (f : Fault). placed f shared (tell allDone 0)) (sym q) ∙ s shared (tell allDone 0)
 
 -- what the pass over all signals says is what the check says
 pub pass-says : (tasks : Tasks) (S : Signals) (grid : Grid) (bytes : List ℕ) → Fits (tableOf tasks S grid) → formSays (tableOf tasks S grid) bytes .number ≡ allDone → {r : Bool}

@@ -1,13 +1,10 @@
--- What the check of a schedule has of its table. Assumes nothing.
-use mathlib.Core.Path.{_≡_}
-use Rattle.rules.specs.Windows.{Table, hyper}
-use Rattle.rules.specs.Table.{Fits}
-use Rattle.rules.specs.Reading.{Grid, tableOf}
-use Rattle.table.specs.declared.reading.TableRead.{TableRead}
+-- What the check says of a schedule in which no reader was sent wrong. Assumes nothing.
+use mathlib.Core.List.{List}
+use Prim.Native.Nat.{ℕ}
+use Rattle.rules.specs.Windows.{Table}
+use Rattle.rules.specs.Bytes.{parts, scheduleIn}
+use Rattle.rules.specs.Numbers.{Told, tell, allDone, shared}
+use Rattle.rules.specs.Answers.{firstSays, sharing}
 
-abbrev pub readTable : TableRead → Grid → Table
-readTable read grid = tableOf (read .tasks) (read .signals) grid
-
--- it keeps the rules, and the hyper-period is its own
-abbrev pub Accepted : TableRead → Grid → Type 0
-Accepted read grid = Fits (readTable read grid) × (read .hyper ≡ hyper (readTable read grid))
+unfoldable pub sharingSays : Table → List ℕ → Told
+sharingSays tab bytes = firstSays tab (sharing tab (scheduleIn tab bytes)) shared (parts tab) (tell allDone 0)

@@ -1,15 +1,62 @@
 // The check of a schedule that was made elsewhere: its table, its form, then its elements.
+use answers::number;
 use events::order_events;
+use faults::Fault;
+use faults::first_fault;
+use form::Side;
+use form::form;
 use inspect::signals_pass;
+use records::grid::read_grid;
+use rules::Answer;
 use rules::MOST_SIGNALS;
 use rules::MOST_TASKS;
 use table::TableRead;
+use table::read_table;
 ghost use mathlib.Core.Path.{_≡_};
 ghost use lib.Dec.{eqb};
-ghost use Rattle.rules.specs.Numbers.{allDone};
+ghost use Rattle.rules.specs.Numbers.{told, allDone};
 ghost use Rattle.rules.specs.Answers.{checkSays};
+ghost use Rattle.rules.specs.Loading.{loadSays};
 ghost use Rattle.form.specs.Form.{formSays};
-ghost use Rattle.judge.specs.Judged.{readTable, Accepted};
+ghost use Rattle.faults.specs.Faults.{readTable, Accepted};
+ghost use Rattle.judge.specs.Judged.{sharingSays};
+
+// The number of an answer that refuses nothing.
+const DONE: u8 = 0;
+
+// 1 to 11 for the table, then 15 to 22 for the schedule.
+pub fn check_schedule(table: &[u8], schedule: &[u8]) -> Answer
+    ensures { λ r. ⌜ told r ≡ loadSays (now (table .entry)) (now (schedule .entry)) ⌝ }
+{
+    let read = read_table(table);
+    let answer = read.answer;
+    if number(answer) != DONE {
+        return answer;
+    }
+    let grid = read_grid(table);
+    check_with(read, &grid, schedule)
+}
+
+// 15 to 22, with a table that was read and accepted.
+pub fn check_with<'a>(
+    read: TableRead,
+    grid: &'a [[u8; MOST_SIGNALS]; MOST_TASKS],
+    schedule: &'a [u8],
+) -> Answer
+    requires { ⌜ Accepted read (now grid) ⌝ }
+    ensures { λ r. ⌜ told r ≡ checkSays (readTable read (now (grid .entry))) (now (schedule .entry)) ⌝ }
+{
+    let tasks = read.tasks;
+    let signals = read.signals;
+    let answer = form(tasks, signals.count, grid, read.hyper, schedule);
+    if number(answer) != DONE {
+        return answer;
+    }
+    if passes(read, grid, schedule) {
+        return Answer::Done(0);
+    }
+    refusal(read, grid, schedule)
+}
 
 // Whether a schedule whose form is right passes, in one pass over the openings and closings of the hyper-period.
 pub fn passes<'a>(
@@ -33,4 +80,30 @@ pub fn passes<'a>(
         signals.count,
         schedule,
     )
+}
+
+// A reader sent wrong anywhere comes before a shared element anywhere.
+fn refusal(read: TableRead, grid: &[[u8; MOST_SIGNALS]; MOST_TASKS], schedule: &[u8]) -> Answer
+    requires { ⌜ Accepted read (now grid) × (formSays (readTable read (now grid)) (now schedule) .number ≡ allDone) ⌝ }
+    ensures { λ r. ⌜ told r ≡ checkSays (readTable read (now (grid .entry))) (now (schedule .entry)) ⌝ }
+{
+    match first_fault(read, grid, Side::Readers, schedule) {
+        Fault::At(at) => Answer::WrongReader(at),
+        Fault::Nowhere => sharing_refusal(read, grid, schedule),
+    }
+}
+
+// The first WI that shares an element, where no reader was sent wrong.
+fn sharing_refusal(
+    read: TableRead,
+    grid: &[[u8; MOST_SIGNALS]; MOST_TASKS],
+    schedule: &[u8],
+) -> Answer
+    requires { ⌜ Accepted read (now grid) × (formSays (readTable read (now grid)) (now schedule) .number ≡ allDone) ⌝ }
+    ensures { λ r. ⌜ told r ≡ sharingSays (readTable read (now (grid .entry))) (now (schedule .entry)) ⌝ }
+{
+    match first_fault(read, grid, Side::Writers, schedule) {
+        Fault::At(at) => Answer::Shared(at),
+        Fault::Nowhere => Answer::Done(0),
+    }
 }

@@ -1,5 +1,5 @@
 -- `judge::passes` meets its contract: an accepted table and right records are what the pass over all signals asks for.
-use mathlib.Core.Path.{refl, ap, _∙_}
+use mathlib.Core.Path.{ap, _∙_}
 use Rattle.rules.specs.Reading.{noGrid}
 use Rattle.events.specs.declared.Events.{Events}
 use Rattle.events.proofs.Alone.{fits-alone, hyper-alone}
