@@ -8,10 +8,11 @@ use lib.Dec.{leb, ltb, eqb}
 use lib.ListN.{length, getD, replicate, length-replicate, getD-replicate}
 use borrow.Author.Tests.{ltb-true, ltb-false, lt-ltb, le-leb, ne-eqb}
 use Rattle.rules.specs.Words.{total, times}
-use Rattle.rules.specs.Windows.{Table, instances, opens}
+use Rattle.rules.specs.Windows.{Table, instances, opens, hyper}
 use Rattle.rules.specs.Values.{carried, by, bound}
 use Rattle.rules.specs.Table.{Fits, mostTasks, mostSignals, mostUses, longest}
 use Rattle.rules.specs.Schedule.{Schedule, base, place, Passes}
+use Rattle.rules.specs.Answers.{checkSays}
 use Rattle.rules.specs.Reading.{Grid, taskOf, writesIn}
 use Rattle.rules.specs.Machine.{State, each, filled, loaded}
 use Rattle.rules.specs.declared.Tasks.{Tasks}
@@ -308,11 +309,14 @@ module _ (g : Given) (C : Checked g) where
         (ap (opened m 0) (runs-laid .store) ∙ opened-is T E F A before m runs-laid 0 (hyper-pos T F) (filled T E (signals .count)))
         (openings-length T E 0 (signals .count) (filled T E (signals .count)) ∙ filled-length T E A (signals .count))
 
-pub starts-right : (g : Given) → StartsRight g
-starts-right g F h accepted =
+-- what the check of a schedule has for loading
+pub checked : (g : Given) → Fits (tab g) → g .hyper ≡ hyper (tab g) → checkSays (tab g) (g .schedule) .number ≡ 0 → Checked g
+checked g F h accepted =
     let (b, A) = check-sound (tab g) (g .schedule) accepted in
-    let C : Checked g = record { fits = F; hyper-is = h; whole = ap length b ∙ bytes-length (tab g) (made g); in-all = A .in-all } in
-    runs-started g C A
+    record { fits = F; hyper-is = h; whole = ap length b ∙ bytes-length (tab g) (made g); in-all = A .in-all }
+
+pub starts-right : (g : Given) → StartsRight g
+starts-right g F h accepted = runs-started g (checked g F h accepted) (check-sound (tab g) (g .schedule) accepted .1)
 
 pub as-meant : (g : Given) → AsMeant g
 as-meant g F h accepted cs =

@@ -4,7 +4,7 @@ use mathlib.Core.Path.{_≡_, refl, sym, ap, ap₂, subst, _∙_}
 use mathlib.Core.Bool.{false}
 use mathlib.Core.List.{List, [], _∷_, _++_, map}
 use native.Mathlib.Omega.{arith}
-use borrow.Author.Tests.{eq-eqb, ne-eqb}
+use borrow.Author.Tests.{eq-eqb, eqb-false}
 use Rattle.rules.specs.Words.{when}
 use Rattle.rules.specs.Windows.{Table}
 use Rattle.rules.specs.Table.{Fits}
@@ -32,7 +32,7 @@ use Rattle.machine.specs.Simulates.{Runs, Said, said, outcomeSaid, callSaid, ca
 use Rattle.machine.specs.Load.{loadLeaves}
 use Rattle.machine.proofs.Fit.{refused-leaves}
 use Rattle.machine.proofs.Simulates.{simulates}
-use Rattle.machine.proofs.Load.{loads-exact, loads-right}
+use Rattle.machine.proofs.Load.{loads-exact, loads-right, schedule-says, refused-stays}
 use Rattle.promises.specs.Runs.{Gives, loads, steps, reads, writes, Run, none, next, replySaid, storyOf, NextCall, RunsAsPromised, LoadsExactly}
 
 -- ---- what the contracts say of each request, as functions
@@ -77,10 +77,6 @@ unfit-said step = (refl, refl)
 unfit-said (read k s) = (refl, refl)
 unfit-said (write k s w) = (refl, refl)
 
-refused-stays : (m : Machine) (table schedule : List ℕ) → accepts table schedule ≡ false → loadLeaves m table schedule ≡ m
-unfolding loadLeaves
-refused-stays m table schedule q = rw q
-
 right-said : (e : Request) (m : Machine) (r : loading.Running) (h : Story) → Stands m r h → codeSaid m e ≡ replySaid (reply r e)
 unfolding reply
 right-said (load table schedule) m r h S = refl
@@ -94,7 +90,7 @@ stands-after (load table schedule) m r h S =
     let E = scheduleIn tab schedule in
     split (accepts table schedule)
     (λ q. let (F, A) = load-accepts table schedule q in rw q (going tab E F A [] (loadLeaves m table schedule) (loads-right m table schedule q)))
-    (λ q. rw (q, refused-stays m table schedule q) S)
+    (λ q. rw (q, refused-stays table schedule m (eqb-false (loadSays table schedule .number) 0 q)) S)
 stands-after (call c) m idle untold (fresh n e) = fresh (callLeaves m c) (ap (λ x. callLeaves x c) e ∙ unfit-said c .1)
 stands-after (call c) m (on t G st) (since u g) (going tab E F A cs n R) =
     rw (← run-snoc tab E cs (loaded tab E) c, ← past-snoc cs [] c)
@@ -170,12 +166,8 @@ runs-as-promised es rs m R =
 -- ---- loading
 
 module _ (table schedule : List ℕ) where
-  read-first : readSays table .number ≡ 0 → loadSays table schedule ≡ checkSays (tableIn table) schedule
-  unfolding loadSays when
-  read-first e = rw (eq-eqb (readSays table .number) 0 e)
-
   passing-done : readSays table .number ≡ 0 → (E : Schedule) → Passes (tableIn table) E → schedule ≡ bytesOf (tableIn table) E → loadSays table schedule ≡ tell 0 0
-  passing-done e E A b = read-first e ∙ ap (checkSays (tableIn table)) b ∙ bytes-checked-exactly (tableIn table) (whatever-is-read-keeps table .accepted e) .complete E A
+  passing-done e E A b = schedule-says table schedule e ∙ ap (checkSays (tableIn table)) b ∙ bytes-checked-exactly (tableIn table) (whatever-is-read-keeps table .accepted e) .complete E A
 
   done-passing : loadSays table schedule .number ≡ 0 → (readSays table .number ≡ 0) × ((E : Schedule) × Passes (tableIn table) E × (schedule ≡ bytesOf (tableIn table) E))
   done-passing e =
@@ -188,7 +180,7 @@ loads-exactly m table schedule r f =
     record {
       accepted = (λ e. done-passing table schedule (number e), λ (e, (E, A, b)). ap (λ (t : Told). t .number) (f .0 ∙ passing-done table schedule e E A b));
       done = λ e. let (x, (E, A, b)) = done-passing table schedule (number e) in told-exact (r .answer) (Answer.Done 0) (f .0 ∙ passing-done table schedule x E A b);
-      refused = λ n. f .1 ∙ refused-stays m table schedule (ne-eqb (loadSays table schedule .number) 0 (λ e. n (ap (λ (t : Told). t .number) (f .0) ∙ e)));
+      refused = λ n. f .1 ∙ refused-stays table schedule m (λ e. n (ap (λ (t : Told). t .number) (f .0) ∙ e));
       one = λ q g. loads-exact m table schedule q r g f;
     }
   where
