@@ -64,7 +64,7 @@ pub record NextCall (tab : Table) (h : List Call) (m : Machine) : Type 0 where
 
 -- After the requests es, answered by rs, the machine is m.
 pub record AsPromised (es : List Request) (rs : List Said) (m : Machine) : Type 0 where
-  -- All answers are those that the bytes loaded and the calls since then determine, with no word of elements, schedules or hyper-periods.
+  -- All answers are as they are meant: a loading by its bytes, a call by the table loaded last and the calls since then, with no element or hyper-period in it.
   pub answers : rs ≡ map replySaid (meantReplies untold es)
   -- So it goes on with the next call,
   pub running : (tab : Table) (h : List Call) → storyOf untold es ≡ since tab h → NextCall tab h m
