@@ -1,4 +1,7 @@
 // The machine that runs a table with a schedule tick by tick. After loading it needs neither of them again.
+use answers::number;
+use judge::check_with;
+use records::grid::read_grid;
 use rows::CELLS;
 use rows::NONE;
 use rows::Place;
@@ -9,9 +12,11 @@ use rules::MOST_SIGNALS;
 use rules::MOST_TASKS;
 use rules::Signals;
 use rules::Tasks;
+use table::read_table;
 ghost use mathlib.Core.Path.{_≡_};
 ghost use Rattle.machine.specs.Calls.{unloaded, stepOf, readOf, writeOf};
 ghost use Rattle.machine.specs.Started.{given, started, Checked};
+ghost use Rattle.machine.specs.Load.{Loads};
 
 pub struct Machine {
     pub loaded: bool,
@@ -65,6 +70,32 @@ impl Machine {
             carried: [NONE; MOST_SIGNALS],
             held: [NONE; MOST_SIGNALS],
             store: [0u32; WORDS],
+        }
+    }
+
+    // The table is checked, then the schedule. A refused loading leaves the machine running.
+    pub fn load<'a>(self, table: &'a [u8], schedule: &'a [u8]) -> Stepped
+        ensures { λ r. ⌜ Loads self (now (table .entry)) (now (schedule .entry)) r ⌝ }
+    {
+        let read = read_table(table);
+        let refusal = read.answer;
+        if number(refusal) != 0 {
+            return Stepped {
+                answer: refusal,
+                machine: self,
+            };
+        }
+        let grid = read_grid(table);
+        let answer = check_with(read, &grid, schedule);
+        if number(answer) != 0 {
+            return Stepped {
+                answer: answer,
+                machine: self,
+            };
+        }
+        Stepped {
+            answer: answer,
+            machine: start(read.tasks, read.signals, &grid, read.hyper, schedule),
         }
     }
 
@@ -223,7 +254,7 @@ impl Machine {
 }
 
 // Loading after its checks: the block zeroed, every element filled with its default, tick 0 opened.
-pub fn start<'a>(
+fn start<'a>(
     tasks: Tasks,
     signals: Signals,
     grid: &'a [[u8; MOST_SIGNALS]; MOST_TASKS],

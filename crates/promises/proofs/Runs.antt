@@ -32,7 +32,7 @@ use Rattle.machine.specs.Simulates.{Runs, Said, said, outcomeSaid, callSaid, ca
 use Rattle.machine.specs.Load.{loadLeaves}
 use Rattle.machine.proofs.Fit.{refused-leaves}
 use Rattle.machine.proofs.Simulates.{simulates}
-use Rattle.machine.proofs.Load.{loads-exact, loads-right, schedule-says, refused-stays}
+use Rattle.machine.proofs.Load.{loads-exact, loads-right, refused-stays}
 use Rattle.promises.specs.Runs.{Gives, loads, steps, reads, writes, Run, none, next, replySaid, storyOf, NextCall, RunsAsPromised, LoadsExactly}
 
 -- ---- what the contracts say of each request, as functions
@@ -166,8 +166,12 @@ runs-as-promised es rs m R =
 -- ---- loading
 
 module _ (table schedule : List ℕ) where
+  read-first : readSays table .number ≡ 0 → loadSays table schedule ≡ checkSays (tableIn table) schedule
+  unfolding loadSays when
+  read-first e = rw (eq-eqb (readSays table .number) 0 e)
+
   passing-done : readSays table .number ≡ 0 → (E : Schedule) → Passes (tableIn table) E → schedule ≡ bytesOf (tableIn table) E → loadSays table schedule ≡ tell 0 0
-  passing-done e E A b = schedule-says table schedule e ∙ ap (checkSays (tableIn table)) b ∙ bytes-checked-exactly (tableIn table) (whatever-is-read-keeps table .accepted e) .complete E A
+  passing-done e E A b = read-first e ∙ ap (checkSays (tableIn table)) b ∙ bytes-checked-exactly (tableIn table) (whatever-is-read-keeps table .accepted e) .complete E A
 
   done-passing : loadSays table schedule .number ≡ 0 → (readSays table .number ≡ 0) × ((E : Schedule) × Passes (tableIn table) E × (schedule ≡ bytesOf (tableIn table) E))
   done-passing e =
