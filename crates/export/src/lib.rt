@@ -2,6 +2,7 @@
 ghost use mathlib.Core.Path.{_≡_};
 ghost use lib.ListN.{length};
 ghost use Rattle.rules.specs.Reading.{readSays};
+ghost use Rattle.rules.specs.Loading.{loadSays};
 ghost use Rattle.plan.specs.Planning.{planTold, planOut};
 
 // Reading a table: 0, or 1 to 11.
@@ -24,6 +25,17 @@ pub extern "C" fn press_plan(table: &[u8], out: &mut [u8], place: &mut usize) ->
     ensures planned { λ _. ⌜ now (out .exit) ≡ planOut (now (table .entry)) (now (out .entry)) ⌝ }
 {
     let answer = plan::plan(table, out);
+    *place = answers::place(answer);
+    answers::number(answer)
+}
+
+// Checking a schedule that was made elsewhere: 0, 1 to 11 for the table, or 15 to 22.
+#[no_mangle]
+pub extern "C" fn press_check(table: &[u8], schedule: &[u8], place: &mut usize) -> u8
+    ensures number { λ r. ⌜ r ≡ loadSays (now (table .entry)) (now (schedule .entry)) .number ⌝ }
+    ensures place { λ _. ⌜ now (place .exit) ≡ loadSays (now (table .entry)) (now (schedule .entry)) .place ⌝ }
+{
+    let answer = judge::check_schedule(table, schedule);
     *place = answers::place(answer);
     answers::number(answer)
 }
