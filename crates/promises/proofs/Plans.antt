@@ -76,14 +76,14 @@ module _ (table out : List ℕ) (r : Answer) (after : List ℕ) (g : PlanGives t
   says e = g .0 ∙ accepted-told table out e
 
   -- number 0 comes of an accepted table only
-  accepted : told r .number ≡ allDone → readSays table .number ≡ allDone
-  accepted z =
+  pub read-accepted : told r .number ≡ allDone → readSays table .number ≡ allDone
+  read-accepted z =
       split (eqb (readSays table .number) allDone)
       (λ q. eqb-true (readSays table .number) allDone q)
       (λ q. let n = eqb-false (readSays table .number) allDone q in absurd (n (sym (ap (λ (t : Told). t .number) (g .0 ∙ refused-told table out n)) ∙ z)))
 
   done-says : told r .number ≡ allDone → planSays (tableIn table) (length out) .number ≡ allDone
-  done-says z = sym (ap (λ (t : Told). t .number) (says (accepted z))) ∙ z
+  done-says z = sym (ap (λ (t : Told). t .number) (says (read-accepted z))) ∙ z
 
   unchanged : (told r .number ≡ allDone → ⊥) → after ≡ out
   unchanged n =
@@ -100,7 +100,7 @@ module _ (table out : List ℕ) (r : Answer) (after : List ℕ) (g : PlanGives t
       λ p. ap (λ (t : Told). t .number) (says e ∙ done-where (tableIn table) (fits e) (length out) (p .0 .0) (p .0 .1) (p .1)),
     );
     written = λ z.
-        let e = accepted z in
+        let e = read-accepted z in
         let d = done-gives (tableIn table) (fits e) (length out) (done-says z) in (
           g .1 ∙ accepted-out table out e ∙ into-done (tableIn table) out (done-says z),
           bytes-checked-exactly (tableIn table) (fits e) .complete (plans.plan (tableIn table)) (d .0),

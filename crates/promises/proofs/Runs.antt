@@ -1,18 +1,16 @@
 -- The machine runs as promised: specs/Runs.antt, proved.
 use Prim.Native.Nat.{ℕ}
 use mathlib.Core.Path.{_≡_, refl, sym, ap, ap₂, subst, _∙_}
-use mathlib.Core.Bool.{false}
 use mathlib.Core.List.{List, [], _∷_, _++_, map}
 use native.Mathlib.Omega.{arith}
-use borrow.Author.Tests.{eq-eqb, eqb-false}
+use borrow.Author.Tests.{eqb-false}
 use Rattle.rules.specs.Words.{when}
 use Rattle.rules.specs.Windows.{Table}
 use Rattle.rules.specs.Table.{Fits}
 use Rattle.rules.specs.Schedule.{Schedule, Passes}
-use Rattle.rules.specs.Numbers.{Told, told, tell, unfit}
-use Rattle.rules.specs.Bytes.{bytesOf, scheduleIn}
-use Rattle.rules.specs.Answers.{checkSays}
-use Rattle.rules.specs.Reading.{tableIn, readSays}
+use Rattle.rules.specs.Numbers.{Told, told, unfit}
+use Rattle.rules.specs.Bytes.{scheduleIn}
+use Rattle.rules.specs.Reading.{tableIn}
 use Rattle.rules.specs.Meaning.{Call, step, read, write, refused, past}
 use Rattle.rules.specs.Machine.{State, loaded, answer, after, run}
 use Rattle.rules.specs.Loading.{Request, load, call, loadSays, accepts, idle, on, reply, following, replies, Story, untold, since, telling}
@@ -20,8 +18,8 @@ use Rattle.rules.specs.Loading as loading
 use Rattle.rules.specs.declared.Answer.{Answer}
 use Rattle.theory.specs.Promises.{Demand3}
 use Rattle.theory.proofs.Tests.{split}
-use Rattle.theory.proofs.Loads.{both-accepted, load-accepts}
-use Rattle.theory.proofs.Proved.{loadings-as-meant, machine-as-demanded, bytes-checked-exactly, whatever-is-read-keeps}
+use Rattle.theory.proofs.Loads.{load-accepts}
+use Rattle.theory.proofs.Proved.{loadings-as-meant, machine-as-demanded}
 use Rattle.fields.proofs.Told.{told-exact}
 use Rattle.machine.specs.declared.Machine.{Machine}
 use Rattle.machine.specs.declared.Stepped.{Stepped}
@@ -33,6 +31,7 @@ use Rattle.machine.specs.Load.{loadLeaves}
 use Rattle.machine.proofs.Fit.{refused-leaves}
 use Rattle.machine.proofs.Simulates.{simulates}
 use Rattle.machine.proofs.Load.{loads-exact, loads-right, refused-stays}
+use Rattle.promises.proofs.Schedules.{passing-done, done-passing}
 use Rattle.promises.specs.Runs.{Gives, loads, steps, reads, writes, Run, none, next, replySaid, storyOf, NextCall, RunsAsPromised, LoadsExactly}
 
 -- ---- what the contracts say of each request, as functions
@@ -164,20 +163,6 @@ runs-as-promised es rs m R =
     }
 
 -- ---- loading
-
-module _ (table schedule : List ℕ) where
-  read-first : readSays table .number ≡ 0 → loadSays table schedule ≡ checkSays (tableIn table) schedule
-  unfolding loadSays when
-  read-first e = rw (eq-eqb (readSays table .number) 0 e)
-
-  passing-done : readSays table .number ≡ 0 → (E : Schedule) → Passes (tableIn table) E → schedule ≡ bytesOf (tableIn table) E → loadSays table schedule ≡ tell 0 0
-  passing-done e E A b = read-first e ∙ ap (checkSays (tableIn table)) b ∙ bytes-checked-exactly (tableIn table) (whatever-is-read-keeps table .accepted e) .complete E A
-
-  done-passing : loadSays table schedule .number ≡ 0 → (readSays table .number ≡ 0) × ((E : Schedule) × Passes (tableIn table) E × (schedule ≡ bytesOf (tableIn table) E))
-  done-passing e =
-      let (x, y) = both-accepted table schedule (eq-eqb (loadSays table schedule .number) 0 e) in
-      let (b, A) = bytes-checked-exactly (tableIn table) (whatever-is-read-keeps table .accepted x) .sound schedule y in
-      (x, (scheduleIn (tableIn table) schedule, A, b))
 
 pub loads-exactly : LoadsExactly
 loads-exactly m table schedule r f =

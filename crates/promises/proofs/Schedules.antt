@@ -1,0 +1,92 @@
+-- Schedules are checked exactly: specs/Schedules.antt, proved.
+use Prim.Native.Nat.{ℕ}
+use mathlib.Core.Path.{_≡_, refl, sym, ap, subst, _∙_}
+use mathlib.Core.Bool.{not}
+use mathlib.Core.List.{List}
+use lib.ListN.{take, drop}
+use lib.Seq.{take-at}
+use borrow.Author.Tests.{eq-eqb, ne-eqb}
+use Rattle.rules.specs.Words.{total, every, highest, gather, when, lowest}
+use Rattle.rules.specs.Euclid.{gcdIn, gcdOf, lcmOf}
+use Rattle.rules.specs.Windows.{lcmAll, hyper}
+use Rattle.rules.specs.Values.{same, publisher, latest, bound, next, lastOf, lastReader, until}
+use Rattle.rules.specs.Table.{accessesOf, uses, everyWriter, windowed, single}
+use Rattle.rules.specs.Schedule.{Schedule, base, Passes, clash}
+use Rattle.rules.specs.Plan as plans
+use Rattle.rules.specs.Fields.{holdsAt, markAt}
+use Rattle.rules.specs.Bytes.{writersBelow, readersBelow, partsOf, parts, sizeOf, startOf, scheduleLength, bytesOf, scheduleIn}
+use Rattle.rules.specs.Encode.{encode}
+use Rattle.rules.specs.Cases.{A, D}
+use Rattle.rules.specs.Numbers.{Told, tell, told, allDone}
+use Rattle.rules.specs.Answers.{standsAt, tableSays, recordsSay, endSays, firstSays, wholeSays, checkSays}
+use Rattle.rules.specs.Records.{taskIn, taskAt, signalAt, rightAt, accessIn, accessAt, endAt}
+use Rattle.rules.specs.Reading.{section, tasksIn, signalsIn, accessesIn, joinedOf, gridFrom, writesIn, readsIn, gridIn, tableIn, ended, verdict, readSays}
+use Rattle.rules.specs.Loading.{loadSays}
+use Rattle.rules.specs.declared.Answer.{Answer}
+use Rattle.theory.specs.First.{FirstBroken, BrokenCheck, checkTold, checkRules}
+use Rattle.theory.proofs.Laid.{bytes-length}
+use Rattle.theory.proofs.Loads.{both-accepted}
+use Rattle.theory.proofs.Proved.{bytes-checked-exactly, check-says-first, whatever-is-read-keeps}
+use Rattle.fields.proofs.Told.{told-exact}
+use Rattle.fields.proofs.Whens.{on, off}
+use Rattle.promises.specs.Schedules.{SchedulesExactly, PlansPass, schedule-A, schedule-D, ToldApart}
+use Rattle.promises.proofs.Plans.{read-accepted, all-plans-rightly}
+
+-- ---- what the table and then the schedule say
+
+module _ (table schedule : List ℕ) where
+  refused-first : (readSays table .number ≡ allDone → ⊥) → loadSays table schedule ≡ readSays table
+  unfolding loadSays
+  refused-first n = on _ _ (ap not (ne-eqb (readSays table .number) allDone n))
+
+  read-first : readSays table .number ≡ allDone → loadSays table schedule ≡ checkSays (tableIn table) schedule
+  unfolding loadSays
+  read-first e = off _ _ (ap not (eq-eqb (readSays table .number) allDone e))
+
+  pub passing-done : readSays table .number ≡ allDone → (E : Schedule) → Passes (tableIn table) E → schedule ≡ bytesOf (tableIn table) E → loadSays table schedule ≡ tell allDone 0
+  passing-done e E A b = read-first e ∙ ap (checkSays (tableIn table)) b ∙ bytes-checked-exactly (tableIn table) (whatever-is-read-keeps table .accepted e) .complete E A
+
+  pub done-passing : loadSays table schedule .number ≡ allDone → (readSays table .number ≡ allDone) × ((E : Schedule) × Passes (tableIn table) E × (schedule ≡ bytesOf (tableIn table) E))
+  done-passing e =
+      let (x, y) = both-accepted table schedule (eq-eqb (loadSays table schedule .number) allDone e) in
+      let (b, A) = bytes-checked-exactly (tableIn table) (whatever-is-read-keeps table .accepted x) .sound schedule y in
+      (x, (scheduleIn (tableIn table) schedule, A, b))
+
+-- ---- the check
+
+pub schedules-exactly : SchedulesExactly
+schedules-exactly table schedule r g = record {
+  table-refused = λ n. g ∙ refused-first table schedule n;
+  accepted = λ e. ((λ z. done-passing table schedule (number z) .1), λ (E, A, b). ap (λ (t : Told). t .number) (g ∙ passing-done table schedule e E A b));
+  first-broken = λ e. subst (FirstBroken (BrokenCheck (tableIn table) schedule) (checkTold (tableIn table)) (checkRules (tableIn table)))
+      (sym (g ∙ read-first table schedule e)) (check-says-first (tableIn table) (whatever-is-read-keeps table .accepted e) schedule);
+  done = λ z. let (e, (E, A, b)) = done-passing table schedule (number z) in (e, told-exact r (Answer.Done 0) (g ∙ passing-done table schedule e E A b));
+  one = λ q h. told-exact q r (h ∙ sym g);
+}
+  where
+    number : told r .number ≡ allDone → loadSays table schedule .number ≡ allDone
+    number z = sym (ap (λ (t : Told). t .number) g) ∙ z
+
+-- ---- the plan's schedule
+
+pub plans-pass : PlansPass
+plans-pass table out r after g z q h =
+    let tab = tableIn table in
+    let P = all-plans-rightly table out r after g in
+    let (left, checked, telling) = P .written z in
+    let front : take (told r .place) after ≡ bytesOf tab (plans.plan tab)
+    = ap (λ (t : Told). take (t .place) after) telling ∙ ap (take (scheduleLength tab)) left ∙ take-at (bytesOf tab (plans.plan tab)) (drop (scheduleLength tab) out) (scheduleLength tab) (bytes-length tab (plans.plan tab)) in
+    told-exact q (Answer.Done 0) (h ∙ ap (loadSays table) front ∙ read-first table (bytesOf tab (plans.plan tab)) (read-accepted table out r after g z) ∙ checked)
+
+-- ---- cases A, H and I, computed
+
+cases : (loadSays (encode A) (schedule-A 1) ≡ tell 0 0) × (loadSays (encode D) (schedule-D 1) ≡ tell 22 11) × (loadSays (encode A) (schedule-A 0) ≡ tell 21 18)
+unfolding total every highest gather when lowest gcdIn gcdOf lcmOf lcmAll hyper same publisher latest bound next lastOf lastReader until accessesOf uses everyWriter windowed single base clash writersBelow readersBelow partsOf parts sizeOf startOf scheduleIn standsAt tableSays recordsSay endSays firstSays wholeSays checkSays holdsAt markAt encode taskIn taskAt signalAt rightAt accessIn accessAt endAt section tasksIn signalsIn accessesIn joinedOf gridFrom writesIn readsIn gridIn tableIn ended verdict readSays loadSays
+cases = (refl, refl, refl)
+
+pub told-apart : ToldApart
+told-apart = record {
+  A-passes = λ r g. told-exact r (Answer.Done 0) (g ∙ cases .0);
+  H-shares = λ r g. told-exact r (Answer.Shared 11) (g ∙ cases .1);
+  I-is-sent-wrong = λ r g. told-exact r (Answer.WrongReader 18) (g ∙ cases .2);
+}
