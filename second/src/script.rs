@@ -187,7 +187,7 @@ impl Script {
         }
     }
 
-    /// The table and a loading, then calls over several hyper-periods.
+    /// The table and a loading, then calls over three hyper-periods or more.
     pub fn machine(&mut self, rng: &mut Rng, bytes: &[u8], calls: usize) {
         self.any_case(rng, "table", bytes);
         let (table, plan) = match (read_table(bytes), planned(bytes)) {
@@ -199,14 +199,18 @@ impl Script {
             schedule = passing(rng, &table).unwrap_or(schedule);
         }
         self.bytes("load", &schedule_bytes(&schedule));
-        let mut tick = 0;
+        let mut ticks = 0;
         for _ in 0..calls {
             match rng.below(30) {
                 0 => self.refused_load(rng, bytes, &table, &plan),
-                1..=11 => tick = self.steps(rng, &table, tick),
+                1..=11 => ticks += self.steps(rng, &table, ticks % table.hyper),
                 12 => self.far_call(rng),
-                _ => self.near_call(rng, &table, tick),
+                _ => self.near_call(rng, &table, ticks % table.hyper),
             }
+        }
+        while ticks < 3 * table.hyper {
+            ticks += self.steps(rng, &table, ticks % table.hyper);
+            self.near_call(rng, &table, ticks % table.hyper);
         }
     }
 
@@ -219,6 +223,7 @@ impl Script {
         self.line("step");
     }
 
+    /// How many steps it asks for.
     fn steps(&mut self, rng: &mut Rng, table: &Table, tick: u32) -> u32 {
         let steps = match rng.below(12) {
             0 => rng.below(table.hyper as usize * 2 + 1) as u32,
@@ -233,7 +238,7 @@ impl Script {
         } else {
             self.line(&format!("step {}", steps));
         }
-        (tick + steps) % table.hyper
+        steps
     }
 
     /// Mostly one that is inside its window now.

@@ -47,6 +47,31 @@ fn key(line: &[u8], answer: &str) -> (String, u32) {
     (command, number)
 }
 
+/// Accepted loadings after which the machine ran for three hyper-periods or more.
+fn long_runs(script: &[u8]) -> u64 {
+    let mut console = Console::new();
+    let (mut kept_hyper, mut hyper, mut ticks, mut runs) = (0, 0, 0, 0);
+    for line in script.split(|byte| *byte == b'\n') {
+        let Some(answer) = console.answer(line) else {
+            continue;
+        };
+        let text = String::from_utf8_lossy(line);
+        let words: Vec<&str> = text.split(' ').collect();
+        let said: Vec<&str> = answer.split_whitespace().collect();
+        match (words[0], said[0]) {
+            ("table", "0") => kept_hyper = said[2].parse().unwrap_or(0),
+            ("load", "0") => (hyper, ticks) = (kept_hyper, 0),
+            ("step", "0") => {
+                let before: u64 = ticks;
+                ticks += words.get(1).map_or(1, |steps| steps.parse().unwrap_or(0));
+                runs += (hyper > 0 && before < 3 * hyper && 3 * hyper <= ticks) as u64;
+            }
+            _ => {}
+        }
+    }
+    runs
+}
+
 pub fn requirements(tally: &mut Tally) {
     for name in NAMES {
         let script = corpus(name).expect("a known name");
@@ -99,6 +124,7 @@ pub fn requirements(tally: &mut Tally) {
                     all("read") + all("write") + all("step") + all("load"),
                     20_000,
                 );
+                need("runs over three hyper-periods", long_runs(&script), 1_000);
                 need("refused loads", all("load") - of("load", 0), 100);
                 [23, 24, 25]
                     .iter()

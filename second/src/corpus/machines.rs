@@ -32,7 +32,7 @@ pub fn machines(script: &mut Script) {
         signals: 3,
         uses: 40,
     };
-    for round in 0..330 {
+    for round in 0..1_150 {
         let limits = match round % 11 {
             0 => Limits {
                 hyper: 10_000,
@@ -50,8 +50,10 @@ pub fn machines(script: &mut Script) {
         };
         let calls = if read_table(&bytes).is_ok_and(|table| table.accesses.is_empty()) {
             4
-        } else {
+        } else if round % 4 == 0 {
             90
+        } else {
+            30
         };
         script.machine(&mut rng, &bytes, calls);
     }
