@@ -55,7 +55,7 @@ pub const MOST_RECORDS: u64 = 600;
 
 pub const MOST_STEPS: u64 = 1000000;
 
-const MOST_WORD: u64 = 4294967295;
+pub const MOST_WORD: u64 = 4294967295;
 
 const ANY: u64 = u64::MAX;
 

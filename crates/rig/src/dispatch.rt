@@ -1,9 +1,14 @@
 // One line for each command.
 use crate::bench::Bench;
 use crate::bench::LONGEST;
+use crate::checking::check_kept;
 use crate::keeping::keep;
 use crate::planning::list_kept;
 use crate::planning::plan_kept;
+use crate::running::load_kept;
+use crate::running::read_machine;
+use crate::running::step_machine;
+use crate::running::write_machine;
 use crate::tell::bad_line;
 use console::command::Command;
 use console::command::asked;
@@ -27,6 +32,13 @@ pub fn answer(
         Command::Table => keep(line, kept, out, bench),
         Command::Plan(len) => plan_kept(len as usize, kept, lent, out, bench),
         Command::Listing => list_kept(kept, lent, out, bench),
+        Command::Check => check_kept(line, kept, lent, out, bench),
+        Command::Load => load_kept(line, kept, lent, out, bench),
+        Command::Steps(k) => step_machine(k, out, bench),
+        Command::Read(task, signal) => { read_machine(task as usize, signal as usize, out, bench) }
+        Command::Write(task, signal, word) => {
+            write_machine(task as usize, signal as usize, word, out, bench)
+        }
         _ => bad_line(out, bench),
     }
 }

@@ -3,12 +3,13 @@ use crate::bench::Bench;
 use crate::bench::OUTPUT;
 use crate::dispatch::answer;
 use crate::tell::LINE_FEED;
+use crate::turns::turns_left;
 use console::page::front;
 use console::page::put_all;
 use console::words::before;
 use libc::STDIN_FILENO;
 use libc::STDOUT_FILENO;
-ghost use Prim.Native.Nat.{_<_};
+use machine::Machine;
 
 fn flush(out: &[u8], waiting: usize) {
     io::write_all(STDOUT_FILENO, front(out, waiting));
@@ -88,24 +89,16 @@ fn read_some(
     take_piece(&piece[..n], line, kept, lent, out, bench)
 }
 
-// Nothing says that input ends, so the turns are counted down from a number that no run uses up.
-fn turns_left(turns: u64, ended: bool) -> u64
-    requires { ⌜ 0 < turns ⌝ }
-    ensures { λ r. ⌜ r < turns ⌝ }
-{
-    if ended {
-        return 0;
-    }
-    turns - 1
-}
-
 pub fn run(piece: &mut [u8], line: &mut [u8], kept: &mut [u8], lent: &mut [u8], out: &mut [u8]) {
+    let machine = Machine::new();
     let mut bench = Bench {
         held: 0,
         kept: 0,
         waiting: 0,
         ended: false,
+        machine: machine,
     };
+    // Nothing says that input ends, so the turns are counted down from a number that no run uses up.
     let mut turns = u64::MAX;
     while turns > 0 {
         bench = read_some(piece, line, kept, lent, out, bench);

@@ -29,6 +29,14 @@ pub fn end_of_answer(out: &mut [u8], at: usize) -> usize
     put(out, at, LINE_FEED)
 }
 
+// An answer that is number and place alone.
+pub fn tell(out: &mut [u8], answer: Answer, bench: Bench) -> Bench {
+    let mut after = bench;
+    let told = put_answer(out, bench.waiting, answer);
+    after.waiting = end_of_answer(out, told);
+    after
+}
+
 pub fn bad_line(out: &mut [u8], bench: Bench) -> Bench
     ensures { λ r. ⌜ page (now (out .exit)) (r .waiting) ≡ putAll badLine (page (now (out .entry)) (bench .waiting)) ⌝ }
 {

@@ -55,6 +55,7 @@ run-spec =
     (tie.spec
     Inv-loop
     μ-loop
+    (λ c κs. search needs)
     (λ c. (refl, refl, refl, refl, refl))
     (λ c κs. search needs)
     turns-left-requires
