@@ -1,89 +1,124 @@
-//! Calls the proved library so that instructions can be counted: `bench WHAT TABLE TIMES`.
+//! The proved library beside plain Rust: `bench same N` compares their answers on N tables, `bench rows` makes the calls that callgrind counts, `bench stack`
+//! says how deep each call reaches.
 
-extern "C" {
-    fn press_table(table: *const u8, length: usize, place: *mut usize) -> u8;
-    fn press_plan(table: *const u8, length: usize, out: *mut u8, room: usize, place: *mut usize) -> u8;
+mod ours;
+mod plain;
+mod same;
+mod stack;
+mod tables;
+
+use std::hint::black_box;
+use tables::table;
+
+/// Longer than any schedule needs.
+const ROOM: usize = 28_802;
+
+/// The counting starts and ends where these are called: `bench/run` names them to callgrind.
+#[no_mangle]
+#[inline(never)]
+extern "C" fn count_starts() {
+    black_box("starts");
 }
 
-struct Task {
-    period: u32,
-    start: u32,
-    end: u32,
+#[no_mangle]
+#[inline(never)]
+extern "C" fn count_ends() {
+    black_box("ends");
 }
 
-/// The bytes of a table; `reads` and `writes` say which task has which signal.
-fn encode(tasks: &[Task], signals: usize, reads: impl Fn(usize, usize) -> bool, writes: impl Fn(usize, usize) -> bool) -> Vec<u8> {
-    let mut bytes = Vec::new();
-    for task in tasks {
-        bytes.extend(b"TK");
-        for field in [task.period, task.start, task.end] {
-            bytes.extend(field.to_be_bytes());
-        }
+fn counted<T>(times: usize, mut call: impl FnMut() -> T) {
+    count_starts();
+    for _ in 0..times {
+        black_box(call());
     }
-    for _ in 0..signals {
-        bytes.extend(b"SG\0\0\0\x07");
+    count_ends();
+}
+
+/// One row: the call and its table, the budget, and how many calls were counted, of the proved code and then of the plain.
+fn row<A, B>(call: &str, name: &str, budget: &str, times: usize, ours: impl FnMut() -> A, plain: impl FnMut() -> B) {
+    println!("{call} {name} {budget} {times}");
+    counted(times, ours);
+    counted(times, plain);
+}
+
+fn planned(table: &[u8]) -> Vec<u8> {
+    let mut schedule = vec![0; ROOM];
+    let (number, length) = ours::plan(table, &mut schedule);
+    assert_eq!(number, 0, "the table is planned");
+    schedule.truncate(length);
+    schedule
+}
+
+fn read_rows() {
+    for name in ["writer", "all", "wide", "half", "quarter", "writes", "clash"] {
+        let bytes = table(name);
+        assert_eq!(ours::read(&bytes), if name == "clash" { (11, 31) } else { (0, 0) });
+        row("read", name, "400000", 10, || ours::read(&bytes), || plain::Table::read(&bytes).is_ok());
     }
-    for task in 0..tasks.len() {
-        for signal in 0..signals {
-            if reads(task, signal) {
-                bytes.extend([b'R', b'D', task as u8, signal as u8]);
+}
+
+fn plan_rows() {
+    for name in ["writer", "all", "wide", "half", "quarter"] {
+        let bytes = table(name);
+        let mut out = planned(&bytes);
+        let mut other = out.clone();
+        row("plan", name, "1200000", 10, || ours::plan(&bytes, &mut out), || plain::plan(&bytes, &mut other).is_ok());
+        assert!(out == other);
+    }
+}
+
+fn check_rows() {
+    for name in ["writer", "all", "wide", "half", "quarter"] {
+        let bytes = table(name);
+        let schedule = planned(&bytes);
+        assert_eq!(ours::check(&bytes, &schedule), (0, 0));
+        row("check", name, "1200000", 10, || ours::check(&bytes, &schedule), || plain::check(&bytes, &schedule).is_ok());
+    }
+}
+
+/// The plan with its last WI, or its last RI, in another element.
+fn broken(bytes: &[u8], mark: &[u8; 2], number: u8) -> Vec<u8> {
+    let mut schedule = planned(bytes);
+    let count = schedule.chunks(1).len();
+    for at in (0..count - 7).rev() {
+        if schedule[at..].starts_with(mark) {
+            let right = schedule[at + 6];
+            for element in 0..32 {
+                schedule[at + 6] = element;
+                if ours::check(bytes, &schedule).0 == number {
+                    return schedule;
+                }
             }
-            if writes(task, signal) {
-                bytes.extend([b'W', b'R', task as u8, signal as u8]);
-            }
+            schedule[at + 6] = right;
         }
     }
-    bytes.extend(b"EN");
-    bytes
+    panic!("no record gives {number}");
 }
 
-/// Fifteen tasks of one period and one of another; no two windows end at one tick of the hyper-period.
-fn sixteen(period: u32, other: Task) -> Vec<Task> {
-    let mut tasks: Vec<Task> = (0..15)
-        .map(|task| Task { period, start: task, end: period - task })
-        .collect();
-    tasks.push(other);
-    tasks
-}
-
-/// All sixteen tasks use every signal: one of them writes it, the others read it.
-fn one_writer_each(signals: usize) -> Vec<u8> {
-    // seven instances of fifteen tasks and 23 of one: 128 for each signal
-    let tasks = sixteen(1380, Task { period: 420, start: 10, end: 401 });
-    encode(&tasks, signals, |task, signal| signal % 16 != task, |task, signal| signal % 16 == task)
-}
-
-/// Full tables, and smaller ones of the same kind.
-fn table(name: &str) -> Vec<u8> {
-    match name {
-        // one writer of 448 instances, four readers of 11: 3,936 uses
-        "writer" => {
-            let mut tasks = vec![Task { period: 22, start: 0, end: 7 }];
-            tasks.extend((0..4).map(|_| Task { period: 896, start: 3, end: 800 }));
-            encode(&tasks, 8, |task, _| task > 0, |task, _| task == 0)
-        }
-        // sixteen tasks that all read and write four signals: 512 instances, 4,096 uses
-        "all" => encode(&sixteen(289, Task { period: 561, start: 10, end: 545 }), 4, |_, _| true, |_, _| true),
-        // 32 signals with 512 accesses: 4,096 uses, the longest schedule
-        "wide" => one_writer_each(32),
-        "half" => one_writer_each(16),
-        "quarter" => one_writer_each(8),
-        _ => panic!("no such table: {name}"),
+/// A refusal pays for the search of its place; no budget holds for it.
+fn refusal_rows() {
+    for (name, mark, number) in [("all", b"RI", 21), ("all", b"WI", 22), ("writer", b"WI", 22)] {
+        let bytes = table(name);
+        let schedule = broken(&bytes, mark, number);
+        assert_eq!(ours::check(&bytes, &schedule).0, number);
+        row(&format!("check:{number}"), name, "-", 1, || ours::check(&bytes, &schedule), || plain::check(&bytes, &schedule).is_ok());
     }
 }
 
 fn main() {
-    let words: Vec<String> = std::env::args().collect();
-    let bytes = table(&words[2]);
-    let times: usize = words[3].parse().expect("a number");
-    let mut out = vec![0u8; 28802];
-    let mut place = 0;
-    for _ in 0..times {
-        let number = match words[1].as_str() {
-            "read" => unsafe { press_table(bytes.as_ptr(), bytes.len(), &mut place) },
-            "plan" => unsafe { press_plan(bytes.as_ptr(), bytes.len(), out.as_mut_ptr(), out.len(), &mut place) },
-            what => panic!("nothing to do: {what}"),
-        };
-        assert_eq!(number, 0, "the table is accepted");
+    let words: Vec<String> = std::env::args().skip(1).collect();
+    match words.iter().map(String::as_str).collect::<Vec<_>>()[..] {
+        ["same", tables] => {
+            let seen = same::compare(tables.parse().expect("a number"));
+            println!("{tables} tables; answers by number: {seen:?}");
+        }
+        ["rows"] => {
+            read_rows();
+            plan_rows();
+            check_rows();
+            refusal_rows();
+        }
+        ["stack"] => stack::rows(),
+        _ => panic!("bench same N | rows | stack"),
     }
 }

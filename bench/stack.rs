@@ -1,0 +1,56 @@
+//! How deep a call reaches: the stack below is painted, and after the call the lowest byte that changed is looked for.
+
+use crate::tables::table;
+use crate::{ours, plain, planned};
+
+const PAINTED: usize = 1 << 20;
+const PAINT: u8 = 0xA5;
+
+/// The lowest address that the stack pointer has now is about that of a local.
+#[inline(never)]
+fn paint(top: usize) {
+    for at in top - PAINTED..top - 512 {
+        unsafe { (at as *mut u8).write_volatile(PAINT) };
+    }
+}
+
+#[inline(never)]
+fn reached(top: usize) -> usize {
+    let lowest = (top - PAINTED..top).find(|&at| unsafe { (at as *const u8).read_volatile() } != PAINT);
+    top - lowest.expect("the call left no trace")
+}
+
+#[inline(never)]
+fn depth(call: &mut dyn FnMut()) -> usize {
+    let mark = 0u8;
+    let top = std::hint::black_box(&mark) as *const u8 as usize;
+    paint(top);
+    call();
+    reached(top)
+}
+
+fn depth_of<T>(mut call: impl FnMut() -> T + Send) -> usize {
+    std::thread::scope(|scope| {
+        let thread = std::thread::Builder::new().stack_size(4 * PAINTED);
+        let spawned = thread.spawn_scoped(scope, move || {
+            depth(&mut || {
+                std::hint::black_box(call());
+            })
+        });
+        spawned.expect("a thread").join().expect("a depth")
+    })
+}
+
+fn row(call: &str, ours: usize, plain: usize) {
+    println!("{call} {ours} {plain}");
+}
+
+pub fn rows() {
+    let bytes = table("all");
+    let schedule = planned(&bytes);
+    let mut out = schedule.clone();
+    let mut other = schedule.clone();
+    row("read", depth_of(|| ours::read(&bytes)), depth_of(|| plain::Table::read(&bytes).is_ok()));
+    row("plan", depth_of(|| ours::plan(&bytes, &mut out)), depth_of(|| plain::plan(&bytes, &mut other).is_ok()));
+    row("check", depth_of(|| ours::check(&bytes, &schedule)), depth_of(|| plain::check(&bytes, &schedule).is_ok()));
+}
