@@ -1,4 +1,8 @@
 // The sections of a table: each reads records of its kind from where the one before ended, and stops at another mark or at a refusal.
+use crate::reader::access_from;
+use crate::reader::end_from;
+use crate::reader::signal_from;
+use crate::reader::task_from;
 use crate::records::AccessStep;
 use crate::records::Cursor;
 use crate::records::Ending;
@@ -51,7 +55,7 @@ pub fn read_tasks(bytes: &[u8]) -> TasksRead
     let mut cursor = Cursor { at: 0 };
     loop {
         let count = tasks.count;
-        match cursor.task(bytes, count) {
+        match task_from(bytes, cursor, count) {
             TaskStep::Taken(task, next) => {
                 tasks.list[count] = task;
                 tasks.count = count + 1;
@@ -95,7 +99,7 @@ fn signals_from(bytes: &[u8], from: Cursor) -> SignalsRead
     let mut cursor = from;
     loop {
         let count = signals.count;
-        match cursor.signal(bytes, count) {
+        match signal_from(bytes, cursor, count) {
             SignalStep::Taken(default, next) => {
                 signals.defaults[count] = default;
                 signals.count = count + 1;
@@ -148,7 +152,7 @@ fn accesses_from(bytes: &[u8], tasks: usize, signals: usize, from: Cursor) -> Ac
     let mut cursor = from;
     loop {
         let count = accesses.count;
-        match cursor.access(bytes, tasks, signals, count, accesses.last) {
+        match access_from(bytes, cursor, tasks, signals, count, accesses.last) {
             AccessStep::Taken(access, next) => {
                 accesses = Accesses {
                     count: count + 1,
@@ -192,7 +196,7 @@ pub fn read_end(bytes: &[u8], from: Ending) -> Ending
     ensures { λ r. ⌜ endSaid r ≡ ended (now (bytes .entry)) (endSaid from) ⌝ }
 {
     match from {
-        Ending::At(cursor) => cursor.end(bytes),
+        Ending::At(cursor) => end_from(bytes, cursor),
         Ending::Refused(answer) => Ending::Refused(answer),
     }
 }
