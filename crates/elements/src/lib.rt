@@ -5,17 +5,11 @@ mod steps;
 pub use pass::Numbers;
 pub use pass::plan_signal;
 
-// The most elements of one signal.
-pub const MOST_ELEMENTS: usize = 32;
-
-// The last of them.
-pub const LAST: usize = MOST_ELEMENTS - 1;
+// The last element that a signal may have.
+pub const LAST: usize = rules::MOST_ELEMENTS - 1;
 
 // No window opens at this tick or later: so long is an element held whose value is being written or stands.
 pub const NEVER: u32 = rules::LONGEST;
-
-// The most uses of a table, as the places of an array.
-pub const USES: usize = rules::MOST_USES as usize;
 
 // The element of the value that stands, the last closing of the readers sent to it, and one more than the highest element taken.
 pub struct Standing {

@@ -1,15 +1,16 @@
 // The pass over the openings and closings of a hyper-period.
-use crate::MOST_ELEMENTS;
 use crate::NEVER;
 use crate::Standing;
-use crate::USES;
 use crate::steps::publish;
 use crate::steps::send;
 use crate::steps::take;
 use events::KIND;
 use events::MOST_EVENTS;
+use rules::CARRIED_ELEMENT;
+use rules::MOST_ELEMENTS;
 use rules::MOST_SIGNALS;
 use rules::MOST_TASKS;
+use rules::MOST_USES;
 use rules::Task;
 use rules::Tasks;
 use signals::reads;
@@ -41,7 +42,7 @@ fn reader_opens(
     access: Access,
     k: usize,
     tick: u32,
-    uses: &mut [u8; USES],
+    uses: &mut [u8; MOST_USES],
     state: Standing,
 ) -> Standing
     requires { ⌜ Opens task access k tick × (state .element < mostElements) ⌝ }
@@ -67,7 +68,7 @@ fn writer_opens(
     tick: u32,
     held: &mut [u32; MOST_ELEMENTS],
     own: &mut [usize; MOST_TASKS],
-    uses: &mut [u8; USES],
+    uses: &mut [u8; MOST_USES],
     state: Standing,
 ) -> Standing
     requires { ⌜ Opens task access k tick ⌝ }
@@ -87,7 +88,7 @@ fn turn(
     event: u32,
     held: &mut [u32; MOST_ELEMENTS],
     own: &mut [usize; MOST_TASKS],
-    uses: &mut [u8; USES],
+    uses: &mut [u8; MOST_USES],
     state: Standing,
 ) -> Standing
     requires { ⌜ Turns task access event × (state .element < mostElements) ⌝ }
@@ -114,16 +115,16 @@ pub fn plan_signal(
     events: &[u32; MOST_EVENTS],
     count: usize,
     numbers: Numbers,
-    uses: &mut [u8; USES],
+    uses: &mut [u8; MOST_USES],
 ) -> u32
     requires { ⌜ Ready tasks (now grid) signal (now events) count numbers ⌝ }
     ensures { λ r. ⌜ (r ≡ chosen (passTable tasks (now (grid .entry))) signal (now (uses .entry)) .count) × (now (uses .exit) ≡ chosen (passTable tasks (now (grid .entry))) signal (now (uses .entry)) .uses) ⌝ }
 {
     let mut held = [0u32; MOST_ELEMENTS];
-    held[0] = NEVER;
+    held[CARRIED_ELEMENT] = NEVER;
     let mut own = [0usize; MOST_TASKS];
     let mut state = Standing {
-        element: 0,
+        element: CARRIED_ELEMENT,
         reach: 0,
         count: 1,
     };

@@ -1,10 +1,10 @@
 // What an opening or a closing does to the elements of a signal.
 use crate::LAST;
-use crate::MOST_ELEMENTS;
 use crate::NEVER;
 use crate::Standing;
-use crate::USES;
+use rules::MOST_ELEMENTS;
 use rules::MOST_TASKS;
+use rules::MOST_USES;
 ghost use mathlib.Core.List.{List};
 ghost use mathlib.Core.Path.{_≡_};
 ghost use Prim.Native.Nat.{ℕ, _<_, _≤_, max};
@@ -33,7 +33,7 @@ pub fn larger(a: u32, b: u32) -> u32
 }
 
 // A reader gets the element that stands, which is held until the reader closes.
-pub fn send(uses: &mut [u8; USES], number: usize, closing: u32, state: Standing) -> Standing
+pub fn send(uses: &mut [u8; MOST_USES], number: usize, closing: u32, state: Standing) -> Standing
     requires { ⌜ (number < mostUses) × (state .element < mostElements) ⌝ }
     ensures { λ r. ⌜ ((held own : List ℕ) → choiceOf held own (now (uses .exit)) r ≡ sent (choiceOf held own (now (uses .entry)) state) number closing) ⌝ }
 {
@@ -49,7 +49,7 @@ pub fn send(uses: &mut [u8; USES], number: usize, closing: u32, state: Standing)
 pub fn take(
     held: &mut [u32; MOST_ELEMENTS],
     own: &mut [usize; MOST_TASKS],
-    uses: &mut [u8; USES],
+    uses: &mut [u8; MOST_USES],
     number: usize,
     task: usize,
     tick: u32,

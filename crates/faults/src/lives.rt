@@ -1,9 +1,9 @@
 // 22: a value that has the element of an earlier one while both are live.
 use crate::View;
-use crate::readers::CARRIED_ELEMENT;
 use crate::search::records_of;
 use form::Side;
 use inspect::element_at;
+use rules::CARRIED_ELEMENT;
 use rules::MOST_SIGNALS;
 use rules::MOST_TASKS;
 use signals::until;

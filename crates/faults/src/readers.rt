@@ -1,9 +1,10 @@
 // 21: a reader that was sent to another element than that of the value it is bound to.
 use crate::View;
 use inspect::element_at;
+use rules::CARRIED;
+use rules::CARRIED_ELEMENT;
 use rules::MOST_SIGNALS;
 use rules::MOST_TASKS;
-use signals::CARRIED;
 use signals::binding_at;
 ghost use mathlib.Core.Path.{_≡_};
 ghost use Prim.Native.Nat.{_≤_};
@@ -14,9 +15,6 @@ ghost use Rattle.rules.specs.Bytes.{ri};
 ghost use Rattle.rules.specs.Answers.{sentWrong};
 ghost use Rattle.form.specs.declared.sides.Side.{Side};
 ghost use Rattle.faults.specs.Faults.{viewTable, viewSchedule, Seen, Has};
-
-// The carried value is always in this element.
-pub const CARRIED_ELEMENT: usize = 0;
 
 // The element of the value that a reader opening at the tick is bound to.
 fn bound_element(

@@ -4,13 +4,13 @@ use crate::View;
 use crate::lives::shares;
 use crate::readers::sent_wrong;
 use form::Side;
-use form::USE_BYTES;
 use form::permitted;
-use inspect::BEFORE_ELEMENT;
 use inspect::Places;
 use inspect::places_at;
+use rules::ELEMENT_AT;
 use rules::MOST_SIGNALS;
 use rules::MOST_TASKS;
+use rules::USE_BYTES;
 use table::TableRead;
 ghost use mathlib.Core.Path.{_≡_};
 ghost use mathlib.Core.List.{List};
@@ -132,8 +132,8 @@ fn start_of(places: Places, side: Side, task: usize, instance: u32) -> usize
     ensures { λ r. ⌜ r ≡ firstOf places side task + 7 * instance - 6 ⌝ }
 {
     match side {
-        Side::Readers => places.readers[task] + USE_BYTES * instance as usize - BEFORE_ELEMENT,
-        Side::Writers => places.writers[task] + USE_BYTES * instance as usize - BEFORE_ELEMENT,
+        Side::Readers => places.readers[task] + USE_BYTES * instance as usize - ELEMENT_AT,
+        Side::Writers => places.writers[task] + USE_BYTES * instance as usize - ELEMENT_AT,
     }
 }
 

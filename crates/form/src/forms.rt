@@ -1,9 +1,5 @@
 // The form of a schedule that was made elsewhere: every byte that the table fixes, every count and every element, in one pass.
-use crate::BF_BYTES;
-use crate::EN_BYTES;
-use crate::MOST_ELEMENTS;
-use crate::ROOM;
-use crate::USE_BYTES;
+use crate::LOW_AT;
 use crate::sides::Side;
 use crate::sides::instances_of;
 use crate::sides::mark_of;
@@ -13,10 +9,20 @@ use fields::marked;
 use fields::wide;
 use rules::Answer;
 use rules::BF;
+use rules::BF_BYTES;
+use rules::COUNT_AT;
+use rules::ELEMENT_AT;
 use rules::EN;
+use rules::EN_BYTES;
+use rules::INSTANCE_AT;
+use rules::MOST_ELEMENTS;
 use rules::MOST_SIGNALS;
 use rules::MOST_TASKS;
+use rules::SIGNAL_AT;
+use rules::TASK_AT;
 use rules::Tasks;
+use rules::USE_BYTES;
+use rules::WORDS;
 ghost use mathlib.Core.Path.{_≡_};
 ghost use mathlib.Core.List.{[], _∷_};
 ghost use Prim.Native.Nat.{_<_, _≤_, _*_, _+_};
@@ -30,10 +36,8 @@ ghost use Rattle.form.specs.declared.sides.Side.{Side};
 ghost use Rattle.form.specs.Records.{Ready, bfBytes, useBytes, mostElements, markOf, instanceParts, sideParts, sidesParts, signalParts, partsIn};
 ghost use Rattle.form.specs.Form.{formSays, bfStands, instanceStands, useStands, signalStep, useStep, walked, step, endStep};
 
-// Where the byte that the table leaves free stands in its record.
-const COUNT_AT: usize = 3;
-
-const ELEMENT_AT: usize = 6;
+// As wide as the byte it bounds.
+const MOST_COUNT: u8 = MOST_ELEMENTS as u8;
 
 // Where the next record starts, the count of the signal it belongs to, and the sum of the counts so far.
 pub struct Place {
@@ -79,7 +83,7 @@ fn end(bytes: &[u8], place: Place) -> Answer
     if at + EN_BYTES < bytes.len() {
         return Answer::AfterSchedule(at + EN_BYTES);
     }
-    if ROOM < place.sum {
+    if WORDS < place.sum {
         return Answer::SumAbove;
     }
     Answer::Done(0)
@@ -226,7 +230,7 @@ fn signal_record(signal: usize, bytes: &[u8], from: Place) -> Walk
     if count < 1 {
         return Walk::Wrong(Answer::BadCount(at));
     }
-    if MOST_ELEMENTS < count {
+    if MOST_COUNT < count {
         return Walk::Wrong(Answer::BadCount(at));
     }
     Walk::Next(Place {
@@ -274,7 +278,7 @@ fn bf_stands(signal: usize, bytes: &[u8], at: usize) -> bool
     if bytes[at + 1] != BF[1] {
         return false;
     }
-    wide(bytes[at + 2]) == signal
+    wide(bytes[at + SIGNAL_AT]) == signal
 }
 
 fn use_stands(
@@ -294,10 +298,10 @@ fn use_stands(
     if bytes[at + 1] != mark[1] {
         return false;
     }
-    if wide(bytes[at + 2]) != signal {
+    if wide(bytes[at + SIGNAL_AT]) != signal {
         return false;
     }
-    if wide(bytes[at + 3]) != task {
+    if wide(bytes[at + TASK_AT]) != task {
         return false;
     }
     instance_stands(instance, bytes, at)
@@ -310,8 +314,8 @@ fn instance_stands(instance: usize, bytes: &[u8], at: usize) -> bool
 {
     let high = instance / 256;
     let low = instance % 256;
-    if wide(bytes[at + 4]) != high {
+    if wide(bytes[at + INSTANCE_AT]) != high {
         return false;
     }
-    wide(bytes[at + 5]) == low
+    wide(bytes[at + LOW_AT]) == low
 }

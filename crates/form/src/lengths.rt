@@ -1,13 +1,13 @@
 // The length of a schedule, which the table alone decides.
-use crate::BF_BYTES;
-use crate::EN_BYTES;
-use crate::USE_BYTES;
 use crate::sides::Side;
 use crate::sides::instances_of;
 use crate::sides::users;
+use rules::BF_BYTES;
+use rules::EN_BYTES;
 use rules::MOST_SIGNALS;
 use rules::MOST_TASKS;
 use rules::Tasks;
+use rules::USE_BYTES;
 ghost use mathlib.Core.Path.{_≡_};
 ghost use Prim.Native.Nat.{_<_, _≤_, _*_, _+_};
 ghost use Rattle.rules.specs.Words.{total};

@@ -11,14 +11,5 @@ pub use sides::mark_of;
 pub use sides::permitted;
 pub use sides::users;
 
-// The bytes of each record with its mark.
-pub const BF_BYTES: usize = 4;
-
-pub const USE_BYTES: usize = 7;
-
-pub const EN_BYTES: usize = 2;
-
-// The most elements of one signal, and of all signals together.
-pub const MOST_ELEMENTS: u8 = 32;
-
-pub const ROOM: usize = 256;
+// The low byte of an instance follows its high byte.
+pub const LOW_AT: usize = rules::INSTANCE_AT + 1;

@@ -2,11 +2,18 @@
 use events::KIND;
 use events::MOST_EVENTS;
 use events::TICK;
+use rules::BF_BYTES;
+use rules::CARRIED_ELEMENT;
+use rules::ELEMENT_AT;
 use rules::LONGEST;
+use rules::MOST_ELEMENTS;
 use rules::MOST_SIGNALS;
 use rules::MOST_TASKS;
+use rules::READ;
 use rules::Task;
 use rules::Tasks;
+use rules::USE_BYTES;
+use rules::WRITE;
 ghost use Prim.Native.Nat.{suc, _*_, _-_, _<_, _≤_, max};
 ghost use mathlib.Core.Bool.{_&&_};
 ghost use mathlib.Core.Path.{_≡_};
@@ -17,23 +24,8 @@ ghost use Rattle.rules.specs.Table.{Fits, mostTasks, mostSignals};
 ghost use Rattle.rules.specs.Bytes.{sizeOf, scheduleIn};
 ghost use Rattle.theory.specs.Sweep.{sweep};
 
-pub const MOST_ELEMENTS: usize = 32;
-
 // A closing and an opening for each task.
 pub const KINDS: usize = 2 * MOST_TASKS;
-
-// The bytes of a WI or an RI.
-pub const RECORD: usize = 7;
-
-// The bytes of a BF, and of a WI or an RI before its element.
-pub const COUNT_RECORD: usize = 4;
-
-pub const BEFORE_ELEMENT: usize = 6;
-
-// A cell of the grid divided by this is odd where the task reads, or writes, the signal.
-pub const READ: u8 = 1;
-
-pub const WRITE: u8 = 2;
 
 // What the pass keeps beside the until-ticks: no mistake was met; the element of the value that stands; the last closing of the
 // readers that opened since it was published.
@@ -93,7 +85,7 @@ pub fn element_at(schedule: &[u8], first: usize, i: u32) -> usize
     requires { ⌜ Inside (now schedule) first i ⌝ }
     ensures { λ r. ⌜ r ≡ elementAt (now (schedule .entry)) first i ⌝ }
 {
-    let at = first + RECORD * i as usize;
+    let at = first + USE_BYTES * i as usize;
     wide(schedule[at])
 }
 
@@ -119,7 +111,7 @@ fn write_at(held: &mut [u32; MOST_ELEMENTS], schedule: &[u8], p: Standing, x: Tu
     requires { ⌜ TurnFits x × Writes (now schedule) x (x .tick) ⌝ }
     ensures { λ r. ⌜ passOf (now (held .exit)) r ≡ wroteOf (now (schedule .entry)) (passOf (now (held .entry)) p) x ⌝ }
 {
-    if x.cell / 2 % 2 != 1 {
+    if x.cell / WRITE % 2 != 1 {
         return p;
     }
     let task = x.task;
@@ -138,7 +130,7 @@ fn publish_at(held: &mut [u32; MOST_ELEMENTS], schedule: &[u8], p: Standing, x: 
     requires { ⌜ TurnFits x × (1 ≤ x .tick) × Writes (now schedule) x (x .tick - 1) × (p .current < mostElements) ⌝ }
     ensures { λ r. ⌜ passOf (now (held .exit)) r ≡ closedOf (now (schedule .entry)) (passOf (now (held .entry)) p) x ⌝ }
 {
-    if x.cell / 2 % 2 != 1 {
+    if x.cell / WRITE % 2 != 1 {
         return p;
     }
     let task = x.task;
@@ -180,7 +172,7 @@ fn acts_of(count: usize, grid: &[[u8; MOST_SIGNALS]; MOST_TASKS], s: usize) -> [
     let mut k: usize = 0;
     while k < count {
         let cell = grid[k][s];
-        acts[k] = cell / 2;
+        acts[k] = cell / WRITE;
         acts[MOST_TASKS + k] = cell;
         k += 1;
     }
@@ -202,10 +194,10 @@ pub fn signal_passes<'a>(
 {
     let acts = acts_of(tasks.count, grid, s);
     let mut held: [u32; MOST_ELEMENTS] = [0; MOST_ELEMENTS];
-    held[0] = LONGEST;
+    held[CARRIED_ELEMENT] = LONGEST;
     let mut p = Standing {
         right: true,
-        current: 0,
+        current: CARRIED_ELEMENT,
         reach: 0,
     };
     let mut n: usize = 0;
@@ -236,7 +228,7 @@ fn records_of(cell: u8, right: u8, instances: u32) -> usize
     ensures { λ r. ⌜ r ≡ 7 * recordsOf cell right instances ⌝ }
 {
     if cell / right % 2 == 1 {
-        return RECORD * instances as usize;
+        return USE_BYTES * instances as usize;
     }
     0
 }
@@ -257,7 +249,7 @@ fn row_from(
     let mut end = from;
     let mut k: usize = 0;
     while k < tasks.count {
-        at[k] = end + BEFORE_ELEMENT;
+        at[k] = end + ELEMENT_AT;
         end += records_of(grid[k][s], right, h / tasks.list[k].period);
         k += 1;
     }
@@ -275,7 +267,7 @@ pub fn places_at(
     requires { ⌜ Fits (gridTable tasks (now grid)) × (h ≡ hyper (gridTable tasks (now grid))) × (s < mostSignals) × (start ≡ total (sizeOf (gridTable tasks (now grid))) s) × (start ≤ longestBytes) ⌝ }
     ensures { λ r. ⌜ ArePlaces tasks (now (grid .entry)) s (r .places) × (r .end ≡ total (sizeOf (gridTable tasks (now (grid .entry)))) (suc s)) ⌝ }
 {
-    let writers = row_from(tasks, h, grid, s, WRITE, start + COUNT_RECORD);
+    let writers = row_from(tasks, h, grid, s, WRITE, start + BF_BYTES);
     let readers = row_from(tasks, h, grid, s, READ, writers.end);
     let read = readers.at;
     let written = writers.at;

@@ -1,11 +1,17 @@
 // The lists of a machine that is loaded: the tasks' windows, and signal by signal the accesses, the uses and the elements.
 use fields::wide;
 use rows::CELLS;
-use rows::USES;
-use rows::WORDS;
+use rules::BF_BYTES;
+use rules::COUNT_AT;
+use rules::ELEMENT_AT;
 use rules::MOST_SIGNALS;
 use rules::MOST_TASKS;
+use rules::MOST_USES;
+use rules::READ;
 use rules::Tasks;
+use rules::USE_BYTES;
+use rules::WORDS;
+use rules::WRITE;
 ghost use mathlib.Core.Path.{_≡_};
 ghost use Prim.Native.Nat.{ℕ, _+_, _*_, _<_, _≤_};
 ghost use lib.ListN.{length, getD, set};
@@ -20,20 +26,6 @@ pub struct Filled {
     pub used: usize,
     pub base: usize,
 }
-
-// A schedule's records, and the byte of each that the table does not fix.
-const BF_BYTES: usize = 4;
-
-const COUNT: usize = 3;
-
-const USE_BYTES: usize = 7;
-
-const ELEMENT: usize = 6;
-
-// The kinds of an access in the grid.
-const READ: u8 = 1;
-
-const WRITE: u8 = 2;
 
 fn long(x: u32) -> usize
     ensures { λ r. ⌜ (r ≡ x) × (r < 4294967296) ⌝ }
@@ -97,7 +89,7 @@ fn place_accesses<'a>(
 
 // The positions of n uses of one signal, from the schedule's elements.
 fn place_uses(
-    uses: &mut [u16; USES],
+    uses: &mut [u16; MOST_USES],
     schedule: &[u8],
     signal: usize,
     base: usize,
@@ -109,7 +101,7 @@ fn place_uses(
 {
     for j in 0..n {
         let k = first + j;
-        let element = schedule[BF_BYTES * (signal + 1) + USE_BYTES * k + ELEMENT];
+        let element = schedule[BF_BYTES * (signal + 1) + USE_BYTES * k + ELEMENT_AT];
         uses[k] = (base + wide(element)) as u16;
     }
 }
@@ -127,7 +119,7 @@ fn fill_elements(store: &mut [u32; WORDS], base: usize, n: usize, word: u32)
 fn load_signal<'a>(
     writes: &mut [u16; CELLS],
     reads: &mut [u16; CELLS],
-    uses: &mut [u16; USES],
+    uses: &mut [u16; MOST_USES],
     carried: &mut [u16; MOST_SIGNALS],
     store: &mut [u32; WORDS],
     grid: &'a [[u8; MOST_SIGNALS]; MOST_TASKS],
@@ -148,7 +140,7 @@ fn load_signal<'a>(
         × (r .used ≡ used + signalUses (now (grid .entry)) (now (counts .entry)) tasks signal)
         × (r .base ≡ base + countIn (now (schedule .entry)) signal used) ⌝ }
 {
-    let count = wide(schedule[BF_BYTES * signal + USE_BYTES * used + COUNT]);
+    let count = wide(schedule[BF_BYTES * signal + USE_BYTES * used + COUNT_AT]);
     carried[signal] = base as u16;
     fill_elements(store, base, count, word);
     let written = place_accesses(writes, grid, counts, tasks, WRITE, signal, used);
@@ -164,7 +156,7 @@ fn load_signal<'a>(
 pub fn load_signals<'a>(
     writes: &mut [u16; CELLS],
     reads: &mut [u16; CELLS],
-    uses: &mut [u16; USES],
+    uses: &mut [u16; MOST_USES],
     carried: &mut [u16; MOST_SIGNALS],
     store: &mut [u32; WORDS],
     grid: &'a [[u8; MOST_SIGNALS]; MOST_TASKS],

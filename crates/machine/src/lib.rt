@@ -5,13 +5,13 @@ use records::grid::read_grid;
 use rows::CELLS;
 use rows::NONE;
 use rows::Place;
-use rows::USES;
-use rows::WORDS;
 use rules::Answer;
 use rules::MOST_SIGNALS;
 use rules::MOST_TASKS;
+use rules::MOST_USES;
 use rules::Signals;
 use rules::Tasks;
+use rules::WORDS;
 use table::read_table;
 ghost use mathlib.Core.Path.{_≡_};
 ghost use Rattle.machine.specs.Calls.{unloaded, stepOf, readOf, writeOf};
@@ -31,7 +31,7 @@ pub struct Machine {
     pub reads: [u16; CELLS],
     pub writes: [u16; CELLS],
     // The position in the store of each use, in the schedule's order.
-    pub uses: [u16; USES],
+    pub uses: [u16; MOST_USES],
     pub defaults: [u32; MOST_SIGNALS],
     // Each signal's element 0, and the position of what was published last.
     pub carried: [u16; MOST_SIGNALS],
@@ -65,7 +65,7 @@ impl Machine {
             counts: [0; MOST_TASKS],
             reads: [NONE; CELLS],
             writes: [NONE; CELLS],
-            uses: [NONE; USES],
+            uses: [NONE; MOST_USES],
             defaults: [0; MOST_SIGNALS],
             carried: [NONE; MOST_SIGNALS],
             held: [NONE; MOST_SIGNALS],
@@ -102,6 +102,7 @@ impl Machine {
     pub fn step(self) -> Stepped
         ensures { λ r. ⌜ r ≡ stepOf self ⌝ }
     {
+        // List by list, here as in a read and a write: a machine handed on whole would be copied, 12 KB for each call.
         if !rows::is_fit(
             self.loaded,
             self.hyper,
@@ -278,7 +279,7 @@ fn start<'a>(
     );
     let mut writes = [NONE; CELLS];
     let mut reads = [NONE; CELLS];
-    let mut uses = [NONE; USES];
+    let mut uses = [NONE; MOST_USES];
     let mut carried = [NONE; MOST_SIGNALS];
     let mut store = [0u32; WORDS];
     let defaults = signals.defaults;

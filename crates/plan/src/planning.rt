@@ -1,14 +1,14 @@
 // Planning a table's bytes into a lent buffer.
 use crate::uses::plan_uses;
-use elements::USES;
 use fields::wide;
-use form::ROOM;
 use records::grid::read_grid;
 use rules::Answer;
 use rules::MOST_SIGNALS;
 use rules::MOST_TASKS;
+use rules::MOST_USES;
 use rules::Signals;
 use rules::Tasks;
+use rules::WORDS;
 use table::read_table;
 ghost use mathlib.Core.Path.{_≡_};
 ghost use Prim.Native.Nat.{_≤_};
@@ -48,9 +48,9 @@ fn plan_table(
 {
     let n = signals.count;
     let mut counts = [0u8; MOST_SIGNALS];
-    let mut uses = [0u8; USES];
+    let mut uses = [0u8; MOST_USES];
     plan_uses(tasks, n, grid, hyper, &mut counts, &mut uses);
-    if ROOM < in_all(&counts, n) {
+    if WORDS < in_all(&counts, n) {
         return Answer::ManyInAll;
     }
     let bytes = form::length(tasks, n, grid, hyper);

@@ -1,6 +1,5 @@
 // The elements of all uses of an accepted table, in the order of their records.
 use elements::Numbers;
-use elements::USES;
 use elements::plan_signal;
 use events::order_events;
 use form::Side;
@@ -8,6 +7,7 @@ use form::instances_of;
 use form::users;
 use rules::MOST_SIGNALS;
 use rules::MOST_TASKS;
+use rules::MOST_USES;
 use rules::Tasks;
 ghost use mathlib.Core.Path.{_≡_};
 ghost use Prim.Native.Nat.{_+_, _<_, _≤_};
@@ -78,7 +78,7 @@ pub fn plan_uses(
     grid: &[[u8; MOST_SIGNALS]; MOST_TASKS],
     hyper: u32,
     counts: &mut [u8; MOST_SIGNALS],
-    uses: &mut [u8; USES],
+    uses: &mut [u8; MOST_USES],
 )
     requires { ⌜ Planning tasks signals (now grid) hyper ⌝ }
     ensures { λ _. ⌜ (now (counts .exit) ≡ countsPlanned (passTable tasks (now (grid .entry))) (now (counts .entry)) (now (uses .entry)) signals) × (now (uses .exit) ≡ usesPlanned (passTable tasks (now (grid .entry))) (now (uses .entry)) signals) ⌝ }

@@ -10,11 +10,15 @@ use fields::wide;
 use rules::Accesses;
 use rules::MOST_SIGNALS;
 use rules::MOST_TASKS;
+use rules::READ;
+use rules::WRITE;
 ghost use mathlib.Core.Path.{_≡_};
 ghost use Prim.Native.Nat.{_≤_};
 ghost use Rattle.rules.specs.Table.{mostTasks, mostSignals};
 ghost use Rattle.rules.specs.Records.{End};
 ghost use Rattle.rules.specs.Reading.{joinedOf, gridFrom, gridIn};
+
+const BOTH: u8 = READ + WRITE;
 
 // The accesses are read once more, up to their end or to the first that is refused.
 pub fn read_grid(bytes: &[u8]) -> [[u8; MOST_SIGNALS]; MOST_TASKS]
@@ -69,5 +73,5 @@ fn grid_from(
 fn joined(right: u8, cell: u8) -> u8
     ensures { λ r. ⌜ r ≡ joinedOf right cell ⌝ }
 {
-    if cell == 0 { right } else { 3 }
+    if cell == 0 { right } else { BOTH }
 }

@@ -7,15 +7,18 @@ use fields::word;
 use rules::Access;
 use rules::Answer;
 use rules::EN;
+use rules::EN_BYTES;
 use rules::LONGEST;
 use rules::MOST_ACCESSES;
 use rules::MOST_SIGNALS;
 use rules::MOST_TASKS;
 use rules::RD;
+use rules::READ;
 use rules::SG;
 use rules::TK;
 use rules::Task;
 use rules::WR;
+use rules::WRITE;
 ghost use mathlib.Core.Path.{_≡_};
 ghost use Prim.Native.Nat.{_+_, _≤_};
 ghost use lib.ListN.{length};
@@ -29,8 +32,6 @@ const TASK_BYTES: usize = 14;
 const SIGNAL_BYTES: usize = 6;
 
 const ACCESS_BYTES: usize = 4;
-
-const END_BYTES: usize = 2;
 
 // The reader's place in the table's bytes.
 pub struct Cursor {
@@ -156,13 +157,13 @@ impl Cursor {
         ensures { λ r. ⌜ endSaid r ≡ endAt (now (bytes .entry)) (self .at) ⌝ }
     {
         let at = self.at;
-        if !holds(bytes, at, END_BYTES) {
+        if !holds(bytes, at, EN_BYTES) {
             return Ending::Refused(Answer::TableCut(at));
         }
         if !marked(bytes, at, EN) {
             return Ending::Refused(Answer::BadMark(at));
         }
-        let after = at + END_BYTES;
+        let after = at + EN_BYTES;
         if after < bytes.len() {
             return Ending::Refused(Answer::AfterEnd(after));
         }
@@ -195,15 +196,15 @@ fn window_fits(task: Task) -> bool
     task.period <= LONGEST
 }
 
-// 1 for RD, 2 for WR, 0 where neither stands.
+// The right that a mark gives, 0 where neither RD nor WR stands.
 fn right_at(bytes: &[u8], at: usize) -> u8
     ensures { λ r. ⌜ r ≡ rightAt (now (bytes .entry)) at ⌝ }
 {
     if marked(bytes, at, RD) {
-        return 1;
+        return READ;
     }
     if marked(bytes, at, WR) {
-        return 2;
+        return WRITE;
     }
     0
 }

@@ -3,6 +3,7 @@ use rules::LONGEST;
 use rules::MOST_SIGNALS;
 use rules::MOST_TASKS;
 use rules::MOST_USES;
+use rules::WORDS;
 ghost use mathlib.Core.Path.{_≡_};
 ghost use mathlib.Core.Bool.{_&&_};
 ghost use Prim.Native.Nat.{_<_};
@@ -11,13 +12,10 @@ ghost use Rattle.rows.specs.Folds.{upTo};
 ghost use Rattle.rows.specs.Fitness.{within, positionsFit, rowFits, gridFits, running, fitParts};
 ghost use Rattle.rows.specs.Rows.{phaseOf, instanceIf, openingOf, closingOf, insideOf, load, save, useOf, publishOne, openOne, carryOne, atInstance, publications, openings, copies, placeOf};
 
-// The words of the store, all signals' elements one after the other.
-pub const WORDS: usize = 256;
-
 const LAST_WORD: u16 = (WORDS - 1) as u16;
 
-// The uses: each access once for each instance of its task.
-pub const USES: usize = MOST_USES as usize;
+// No task has more instances than there are uses.
+const MOST_COUNT: u32 = MOST_USES as u32;
 
 // One cell for each task and signal, a row for each task.
 pub const CELLS: usize = MOST_TASKS * MOST_SIGNALS;
@@ -73,10 +71,10 @@ fn row_fits(firsts: &[u16; CELLS], task: usize, count: u32) -> bool
     requires { ⌜ task < mostTasks ⌝ }
     ensures { λ r. ⌜ r ≡ rowFits (now (firsts .entry)) count task ⌝ }
 {
-    if MOST_USES < count {
+    if MOST_COUNT < count {
         return false;
     }
-    let limit = (MOST_USES - count) as u16;
+    let limit = (MOST_COUNT - count) as u16;
     let mut ok = true;
     for s in 0..MOST_SIGNALS {
         ok = and(is_within(limit, firsts[task * MOST_SIGNALS + s]), ok);
@@ -107,7 +105,7 @@ pub fn is_fit<'a>(
     counts: &'a [u32; MOST_TASKS],
     reads: &'a [u16; CELLS],
     writes: &'a [u16; CELLS],
-    uses: &'a [u16; USES],
+    uses: &'a [u16; MOST_USES],
     carried: &'a [u16; MOST_SIGNALS],
     held: &'a [u16; MOST_SIGNALS],
 ) -> bool
@@ -189,7 +187,7 @@ pub fn save(store: &mut [u32; WORDS], position: u16, word: u32)
 // Where the instance has the signal; a first use of none leads past the list of uses.
 fn use_of<'a>(
     firsts: &'a [u16; CELLS],
-    uses: &'a [u16; USES],
+    uses: &'a [u16; MOST_USES],
     task: usize,
     instance: u32,
     signal: usize,
@@ -198,13 +196,13 @@ fn use_of<'a>(
     ensures { λ r. ⌜ r ≡ useOf (now (firsts .entry)) (now (uses .entry)) task instance signal ⌝ }
 {
     let k = wide(firsts[task * MOST_SIGNALS + signal]) + instance as usize;
-    if k < USES { uses[k] } else { NONE }
+    if k < MOST_USES { uses[k] } else { NONE }
 }
 
 fn publish_one<'a>(
     held: &mut [u16; MOST_SIGNALS],
     firsts: &'a [u16; CELLS],
-    uses: &'a [u16; USES],
+    uses: &'a [u16; MOST_USES],
     task: usize,
     instance: u32,
     signal: usize,
@@ -222,7 +220,7 @@ fn publish_one<'a>(
 fn open_one<'a>(
     store: &mut [u32; WORDS],
     firsts: &'a [u16; CELLS],
-    uses: &'a [u16; USES],
+    uses: &'a [u16; MOST_USES],
     defaults: &'a [u32; MOST_SIGNALS],
     task: usize,
     instance: u32,
@@ -256,7 +254,7 @@ fn carry_one<'a>(
 fn publish_row<'a>(
     held: &mut [u16; MOST_SIGNALS],
     firsts: &'a [u16; CELLS],
-    uses: &'a [u16; USES],
+    uses: &'a [u16; MOST_USES],
     task: usize,
     instance: u32,
 )
@@ -271,7 +269,7 @@ fn publish_row<'a>(
 fn open_row<'a>(
     store: &mut [u32; WORDS],
     firsts: &'a [u16; CELLS],
-    uses: &'a [u16; USES],
+    uses: &'a [u16; MOST_USES],
     defaults: &'a [u32; MOST_SIGNALS],
     task: usize,
     instance: u32,
@@ -289,7 +287,7 @@ fn open_row<'a>(
 fn publish_task<'a>(
     held: &mut [u16; MOST_SIGNALS],
     firsts: &'a [u16; CELLS],
-    uses: &'a [u16; USES],
+    uses: &'a [u16; MOST_USES],
     task: usize,
     closing: Instance,
 )
@@ -305,7 +303,7 @@ fn publish_task<'a>(
 fn open_task<'a>(
     store: &mut [u32; WORDS],
     firsts: &'a [u16; CELLS],
-    uses: &'a [u16; USES],
+    uses: &'a [u16; MOST_USES],
     defaults: &'a [u32; MOST_SIGNALS],
     task: usize,
     opening: Instance,
@@ -327,7 +325,7 @@ pub fn publish_all<'a>(
     ends: &'a [u32; MOST_TASKS],
     counts: &'a [u32; MOST_TASKS],
     firsts: &'a [u16; CELLS],
-    uses: &'a [u16; USES],
+    uses: &'a [u16; MOST_USES],
     tick: u32,
 )
     ensures { λ _. ⌜ now (held .exit) ≡ publications (now (periods .entry)) (now (ends .entry)) (now (counts .entry)) (now (firsts .entry)) (now (uses .entry)) tick (now (held .entry)) ⌝ }
@@ -344,7 +342,7 @@ pub fn open_all<'a>(
     starts: &'a [u32; MOST_TASKS],
     counts: &'a [u32; MOST_TASKS],
     firsts: &'a [u16; CELLS],
-    uses: &'a [u16; USES],
+    uses: &'a [u16; MOST_USES],
     defaults: &'a [u32; MOST_SIGNALS],
     tick: u32,
 )
@@ -375,7 +373,7 @@ pub fn locate<'a>(
     ends: &'a [u32; MOST_TASKS],
     counts: &'a [u32; MOST_TASKS],
     firsts: &'a [u16; CELLS],
-    uses: &'a [u16; USES],
+    uses: &'a [u16; MOST_USES],
     tick: u32,
     task: usize,
     signal: usize,

@@ -1,15 +1,22 @@
 // A schedule written from its counts and elements, record by record at the front of a lent buffer.
-use form::BF_BYTES;
+use form::LOW_AT;
 use form::Side;
-use form::USE_BYTES;
 use form::instances_of;
 use form::mark_of;
 use form::users;
 use rules::BF;
+use rules::BF_BYTES;
+use rules::COUNT_AT;
+use rules::ELEMENT_AT;
 use rules::EN;
+use rules::INSTANCE_AT;
 use rules::MOST_SIGNALS;
 use rules::MOST_TASKS;
+use rules::MOST_USES;
+use rules::SIGNAL_AT;
+use rules::TASK_AT;
 use rules::Tasks;
+use rules::USE_BYTES;
 ghost use mathlib.Core.Path.{_≡_};
 ghost use mathlib.Core.List.{List, _++_};
 ghost use Prim.Native.Nat.{ℕ, _<_, _≤_, _*_, _+_};
@@ -24,9 +31,6 @@ ghost use Rattle.form.specs.declared.sides.Side as sides;
 ghost use Rattle.form.specs.Records.{Ready, Short, bfBytes, useBytes, enBytes, markOf, usersBelow, instanceParts, sideParts, signalParts, partsIn};
 ghost use Rattle.form.specs.Form.{walked};
 ghost use Rattle.schedule.specs.Writing.{Room, scheduleOf, bfPut, usePut, put, usesOf, usesBelow};
-
-// One element for each WI and RI record of the longest schedule.
-pub const MOST_USES: usize = rules::MOST_USES as usize;
 
 // The schedule with these counts, whose WI and RI records have the elements `uses` in the order in which they stand; bytes after it stay.
 pub fn write(
@@ -185,8 +189,8 @@ fn put_bf(signal: usize, count: u8, at: usize, out: &mut [u8])
 {
     out[at] = BF[0];
     out[at + 1] = BF[1];
-    out[at + 2] = signal as u8;
-    out[at + 3] = count;
+    out[at + SIGNAL_AT] = signal as u8;
+    out[at + COUNT_AT] = count;
 }
 
 fn put_use(
@@ -203,9 +207,9 @@ fn put_use(
 {
     out[at] = mark[0];
     out[at + 1] = mark[1];
-    out[at + 2] = signal as u8;
-    out[at + 3] = task as u8;
-    out[at + 4] = (instance / 256) as u8;
-    out[at + 5] = (instance % 256) as u8;
-    out[at + 6] = element;
+    out[at + SIGNAL_AT] = signal as u8;
+    out[at + TASK_AT] = task as u8;
+    out[at + INSTANCE_AT] = (instance / 256) as u8;
+    out[at + LOW_AT] = (instance % 256) as u8;
+    out[at + ELEMENT_AT] = element;
 }

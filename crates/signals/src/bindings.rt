@@ -1,7 +1,7 @@
 // The value of a signal that stands at a tick.
-use crate::CARRIED;
 use crate::Publication;
 use crate::rights::writes;
+use rules::CARRIED;
 use rules::MOST_SIGNALS;
 use rules::MOST_TASKS;
 use rules::Task;

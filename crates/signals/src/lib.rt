@@ -15,6 +15,3 @@ pub struct Publication {
     pub task: usize,
     pub instance: u32,
 }
-
-// The task number that stands for the carried value.
-pub const CARRIED: usize = 255;

@@ -18,6 +18,9 @@ ghost use Rattle.windows.specs.Windowed.{AllWindowed};
 ghost use Rattle.rules.specs.Reading.{acceptedHyper};
 ghost use Rattle.table.specs.Forms.{timed};
 
+// As wide as the sum it bounds.
+const MOST_USES: u32 = rules::MOST_USES as u32;
+
 // 9 to 11, where the hyper-period is known.
 pub fn judge_within(
     tasks: Tasks,
@@ -34,7 +37,7 @@ pub fn judge_within(
             hyper: 0,
         };
     }
-    if rules::MOST_USES < all_uses(tasks, signals, grid, hyper) {
+    if MOST_USES < all_uses(tasks, signals, grid, hyper) {
         return Judged {
             answer: Answer::ManyUses,
             hyper: 0,

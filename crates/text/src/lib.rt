@@ -3,20 +3,18 @@ mod lines;
 mod listing;
 mod walk;
 
-use form::BF_BYTES;
-use form::EN_BYTES;
-use form::USE_BYTES;
 pub use listing::put_listing;
+use rules::BF_BYTES;
+use rules::EN_BYTES;
 use rules::MOST_SIGNALS;
 use rules::MOST_USES;
-
-const USES: usize = MOST_USES as usize;
+use rules::USE_BYTES;
 
 // The bytes of the longest schedule.
-pub const LONGEST_SCHEDULE: usize = MOST_SIGNALS * BF_BYTES + USES * USE_BYTES + EN_BYTES;
+pub const LONGEST_SCHEDULE: usize = MOST_SIGNALS * BF_BYTES + MOST_USES * USE_BYTES + EN_BYTES;
 
 // `write 15 511 element 31` and its line feed.
 const LONGEST_LINE: usize = 24;
 
 // No listing has more characters: one line for each use and each signal, and two more.
-pub const LONGEST_LISTING: usize = (USES + MOST_SIGNALS + 2) * LONGEST_LINE;
+pub const LONGEST_LISTING: usize = (MOST_USES + MOST_SIGNALS + 2) * LONGEST_LINE;

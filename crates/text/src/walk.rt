@@ -4,25 +4,20 @@ use crate::lines::put_total;
 use crate::lines::put_use;
 use fields::marked;
 use fields::wide;
-use form::BF_BYTES;
-use form::USE_BYTES;
+use form::LOW_AT;
 use rules::BF;
+use rules::BF_BYTES;
+use rules::COUNT_AT;
+use rules::ELEMENT_AT;
 use rules::EN;
+use rules::INSTANCE_AT;
 use rules::RI;
+use rules::SIGNAL_AT;
+use rules::TASK_AT;
+use rules::USE_BYTES;
 use rules::WI;
 ghost use Prim.Native.Nat.{_<_, _≤_};
 ghost use lib.ListN.{length};
-
-// Where the fields that are listed stand in their records.
-const SIGNAL_AT: usize = 2;
-
-const COUNT_AT: usize = 3;
-
-const TASK_AT: usize = 3;
-
-const INSTANCE_AT: usize = 4;
-
-const ELEMENT_AT: usize = 6;
 
 const WRITE: [u8; 6] = *b"write ";
 
@@ -74,7 +69,7 @@ fn list_use(schedule: &[u8], out: &mut [u8], walk: Walk, name: &[u8]) -> Walk
     if schedule.len() - at < USE_BYTES {
         return ended(schedule, walk);
     }
-    let instance = wide(schedule[at + INSTANCE_AT]) * 256 + wide(schedule[at + INSTANCE_AT + 1]);
+    let instance = wide(schedule[at + INSTANCE_AT]) * 256 + wide(schedule[at + LOW_AT]);
     let used = put_use(
         out,
         walk.used,
