@@ -1,5 +1,6 @@
+pub mod Answers
 pub mod Exact
-pub mod Lends
+pub mod Held
 pub mod Places
 pub mod Sectioned
 pub mod Taken

@@ -1,5 +1,5 @@
 // The grid of the accesses, 16 rows of tasks by 32 columns of signals: 0 none, 1 read, 2 write, 3 both.
-use crate::reader::access_from;
+use crate::reader::access_at;
 use crate::records::AccessStep;
 use crate::records::Cursor;
 use crate::records::Ending;
@@ -48,7 +48,7 @@ fn grid_from(
     let mut cursor = from;
     loop {
         let count = accesses.count;
-        match access_from(bytes, cursor, tasks, signals, count, accesses.last) {
+        match access_at(bytes, cursor, tasks, signals, count, accesses.last) {
             AccessStep::Taken(access, next) => {
                 let task = wide(access.task);
                 let signal = wide(access.signal);

@@ -79,19 +79,21 @@ pub fn placed<'a>(table: &'a [u8], place: Cursor) -> Reader<'a>
 }
 
 // The task at a place of the table: a reader is placed there and asked.
-pub fn task_from(table: &[u8], place: Cursor, count: usize) -> TaskStep
+pub fn task_at(table: &[u8], place: Cursor, count: usize) -> TaskStep
     ensures { λ r. ⌜ taskSaid r ≡ taskAt (now (table .entry)) count (place .at) ⌝ }
 {
     next_task(placed(table, place), count)
 }
 
-pub fn signal_from(table: &[u8], place: Cursor, count: usize) -> SignalStep
+// The signal there.
+pub fn signal_at(table: &[u8], place: Cursor, count: usize) -> SignalStep
     ensures { λ r. ⌜ signalSaid r ≡ signalAt (now (table .entry)) count (place .at) ⌝ }
 {
     next_signal(placed(table, place), count)
 }
 
-pub fn access_from(
+// The access there.
+pub fn access_at(
     table: &[u8],
     place: Cursor,
     tasks: usize,
@@ -104,7 +106,8 @@ pub fn access_from(
     next_access(placed(table, place), tasks, signals, count, last)
 }
 
-pub fn end_from(table: &[u8], place: Cursor) -> Ending
+// The end there.
+pub fn end_at(table: &[u8], place: Cursor) -> Ending
     ensures { λ r. ⌜ endSaid r ≡ endAt (now (table .entry)) (place .at) ⌝ }
 {
     next_end(placed(table, place))

@@ -1,8 +1,8 @@
 // The sections of a table: each reads records of its kind from where the one before ended, and stops at another mark or at a refusal.
-use crate::reader::access_from;
-use crate::reader::end_from;
-use crate::reader::signal_from;
-use crate::reader::task_from;
+use crate::reader::access_at;
+use crate::reader::end_at;
+use crate::reader::signal_at;
+use crate::reader::task_at;
 use crate::records::AccessStep;
 use crate::records::Cursor;
 use crate::records::Ending;
@@ -55,7 +55,7 @@ pub fn read_tasks(bytes: &[u8]) -> TasksRead
     let mut cursor = Cursor { at: 0 };
     loop {
         let count = tasks.count;
-        match task_from(bytes, cursor, count) {
+        match task_at(bytes, cursor, count) {
             TaskStep::Taken(task, next) => {
                 tasks.list[count] = task;
                 tasks.count = count + 1;
@@ -99,7 +99,7 @@ fn signals_from(bytes: &[u8], from: Cursor) -> SignalsRead
     let mut cursor = from;
     loop {
         let count = signals.count;
-        match signal_from(bytes, cursor, count) {
+        match signal_at(bytes, cursor, count) {
             SignalStep::Taken(default, next) => {
                 signals.defaults[count] = default;
                 signals.count = count + 1;
@@ -152,7 +152,7 @@ fn accesses_from(bytes: &[u8], tasks: usize, signals: usize, from: Cursor) -> Ac
     let mut cursor = from;
     loop {
         let count = accesses.count;
-        match access_from(bytes, cursor, tasks, signals, count, accesses.last) {
+        match access_at(bytes, cursor, tasks, signals, count, accesses.last) {
             AccessStep::Taken(access, next) => {
                 accesses = Accesses {
                     count: count + 1,
@@ -196,7 +196,7 @@ pub fn read_end(bytes: &[u8], from: Ending) -> Ending
     ensures { λ r. ⌜ endSaid r ≡ ended (now (bytes .entry)) (endSaid from) ⌝ }
 {
     match from {
-        Ending::At(cursor) => end_from(bytes, cursor),
+        Ending::At(cursor) => end_at(bytes, cursor),
         Ending::Refused(answer) => Ending::Refused(answer),
     }
 }

@@ -42,7 +42,7 @@ loop-holds c =
     )
 
 taken : (c : tie.After-access Inv-loop μ-loop) → AccessTaken (c .before .before .before .before .before .before .args .tasks) (c .before .before .before .before .before .before .args .signals) (c .before .before .before .loop .accesses .count) (c .access .given .0 .0)
-taken c = access-taken _ _ _ _ _ _ (sym (c .before .before .access-from .ensures) ∙ ap accessSaid (c .access .given .1))
+taken c = access-taken _ _ _ _ _ _ (sym (c .before .before .access-at .ensures) ∙ ap accessSaid (c .access .given .1))
 
 loop-again : tie.Need-loop-again Inv-loop μ-loop
 loop-again c =
@@ -53,19 +53,19 @@ loop-again c =
       omega (arith, taken (c .before .before .before .before .before)),
       ap (λ (g : Grid). markedFrom (now (a .bytes)) (a .tasks) (a .signals) n (record { grid = g; accesses = putAccess (i .accesses) (x .0 .0) }) (x .0 .1 .0 .at) .read .grid)
           (put (i .grid) (x .0 .0) (c .before .before .before .wide .ensures .0) (c .before .before .wide2 .ensures .0) (c .joined .ensures))
-          ∙ ap grid (turned _ _ accessSaid n _ _ (omega arith) (x .1) (c .before .before .before .before .before .before .before .access-from .ensures))
+          ∙ ap grid (turned _ _ accessSaid n _ _ (omega arith) (x .1) (c .before .before .before .before .before .before .before .access-at .ensures))
           ∙ i .inv .1,
     )
 
 returns : tie.Need-returns Inv-loop μ-loop
 returns c =
     let i = c .before .before .before .loop in
-    ap grid (turned _ _ accessSaid (mostAccesses - i .accesses .count) _ _ (omega arith) (c .enum-told .given .1) (c .before .before .access-from .ensures)) ∙ i .inv .1
+    ap grid (turned _ _ accessSaid (mostAccesses - i .accesses .count) _ _ (omega arith) (c .enum-told .given .1) (c .before .before .access-at .ensures)) ∙ i .inv .1
 
 returns-2 : tie.Need-returns-2 Inv-loop μ-loop
 returns-2 c =
     let i = c .before .before .before .loop in
-    ap grid (turned _ _ accessSaid (mostAccesses - i .accesses .count) _ _ (omega arith) (c .enum-told2 .given .1) (c .before .before .access-from .ensures)) ∙ i .inv .1
+    ap grid (turned _ _ accessSaid (mostAccesses - i .accesses .count) _ _ (omega arith) (c .enum-told2 .given .1) (c .before .before .access-at .ensures)) ∙ i .inv .1
 
 pub grid-from-spec : {M : Type 1} → statement M
 grid-from-spec =

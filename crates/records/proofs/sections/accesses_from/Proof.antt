@@ -31,26 +31,26 @@ loop-holds c =
     )
 
 few : (c : tie.After-access Inv-loop μ-loop) → c .before .before .before .loop .accesses .count < mostAccesses
-few c = access-taken _ _ _ _ _ _ (sym (c .before .before .access-from .ensures) ∙ ap accessSaid (c .access .given .1)) .few
+few c = access-taken _ _ _ _ _ _ (sym (c .before .before .access-at .ensures) ∙ ap accessSaid (c .access .given .1)) .few
 
 loop-again : tie.Need-loop-again Inv-loop μ-loop
 loop-again c =
     let i = c .before .before .before .before .loop in (
       omega (arith, few (c .before)),
-      turned _ _ accessSaid (mostAccesses + 1 - (i .accesses .count + 1)) _ _ (omega arith) (c .before .access .given .1) (c .before .before .before .access-from .ensures) ∙ i .inv .1,
+      turned _ _ accessSaid (mostAccesses + 1 - (i .accesses .count + 1)) _ _ (omega arith) (c .before .access .given .1) (c .before .before .before .access-at .ensures) ∙ i .inv .1,
     )
 
 returns : tie.Need-returns Inv-loop μ-loop
 returns c =
     let i = c .before .before .before .loop in (
-      turned _ _ accessSaid (mostAccesses - i .accesses .count) _ _ (omega arith) (c .enum-told .given .1) (c .before .before .access-from .ensures) ∙ i .inv .1,
+      turned _ _ accessSaid (mostAccesses - i .accesses .count) _ _ (omega arith) (c .enum-told .given .1) (c .before .before .access-at .ensures) ∙ i .inv .1,
       i .inv .0,
     )
 
 returns-2 : tie.Need-returns-2 Inv-loop μ-loop
 returns-2 c =
     let i = c .before .before .before .before .loop in (
-      turned _ _ accessSaid (mostAccesses - i .accesses .count) _ _ (omega arith) (c .before .answer .given .1) (c .before .before .before .access-from .ensures) ∙ i .inv .1,
+      turned _ _ accessSaid (mostAccesses - i .accesses .count) _ _ (omega arith) (c .before .answer .given .1) (c .before .before .before .access-at .ensures) ∙ i .inv .1,
       i .inv .0,
     )
 

@@ -8,7 +8,7 @@ use Rattle.records.proofs.sections.read_end.Tie as tie
 
 returns : tie.Need-returns
 unfolding ended
-returns c = c .end-from .ensures ∙ sym (ap (ended _) (ap endSaid (c .before .before .from .given .1)))
+returns c = c .end-at .ensures ∙ sym (ap (ended _) (ap endSaid (c .before .before .from .given .1)))
 
 returns-2 : tie.Need-returns-2
 unfolding ended

@@ -23,26 +23,26 @@ unfolding tasksIn
 loop-holds c = (omega arith, refl)
 
 few : (c : tie.After-task Inv-loop μ-loop) → c .before .before .before .loop .tasks .count < mostTasks
-few c = task-taken _ _ _ (sym (c .before .before .task-from .ensures) ∙ ap taskSaid (c .task .given .1)) .few
+few c = task-taken _ _ _ (sym (c .before .before .task-at .ensures) ∙ ap taskSaid (c .task .given .1)) .few
 
 loop-again : tie.Need-loop-again Inv-loop μ-loop
 loop-again c =
     let i = c .before .before .before .before .loop in (
       omega (arith, few (c .before)),
-      turned _ _ taskSaid (mostTasks + 1 - (i .tasks .count + 1)) _ _ (omega arith) (c .before .task .given .1) (c .before .before .before .task-from .ensures) ∙ i .inv .1,
+      turned _ _ taskSaid (mostTasks + 1 - (i .tasks .count + 1)) _ _ (omega arith) (c .before .task .given .1) (c .before .before .before .task-at .ensures) ∙ i .inv .1,
     )
 
 returns : tie.Need-returns Inv-loop μ-loop
 returns c =
     let i = c .before .before .before .loop in (
-      turned _ _ taskSaid (mostTasks - i .tasks .count) _ _ (omega arith) (c .enum-told .given .1) (c .before .before .task-from .ensures) ∙ i .inv .1,
+      turned _ _ taskSaid (mostTasks - i .tasks .count) _ _ (omega arith) (c .enum-told .given .1) (c .before .before .task-at .ensures) ∙ i .inv .1,
       i .inv .0,
     )
 
 returns-2 : tie.Need-returns-2 Inv-loop μ-loop
 returns-2 c =
     let i = c .before .before .before .before .loop in (
-      turned _ _ taskSaid (mostTasks - i .tasks .count) _ _ (omega arith) (c .before .answer .given .1) (c .before .before .before .task-from .ensures) ∙ i .inv .1,
+      turned _ _ taskSaid (mostTasks - i .tasks .count) _ _ (omega arith) (c .before .answer .given .1) (c .before .before .before .task-at .ensures) ∙ i .inv .1,
       i .inv .0,
     )
 

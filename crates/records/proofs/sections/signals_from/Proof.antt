@@ -30,26 +30,26 @@ loop-holds c =
     )
 
 few : (c : tie.After-default Inv-loop μ-loop) → c .before .before .before .loop .signals .count < mostSignals
-few c = signal-few _ _ _ (sym (c .before .before .signal-from .ensures) ∙ ap signalSaid (c .default .given .1))
+few c = signal-few _ _ _ (sym (c .before .before .signal-at .ensures) ∙ ap signalSaid (c .default .given .1))
 
 loop-again : tie.Need-loop-again Inv-loop μ-loop
 loop-again c =
     let i = c .before .before .before .before .loop in (
       omega (arith, few (c .before)),
-      turned _ _ signalSaid (mostSignals + 1 - (i .signals .count + 1)) _ _ (omega arith) (c .before .default .given .1) (c .before .before .before .signal-from .ensures) ∙ i .inv .1,
+      turned _ _ signalSaid (mostSignals + 1 - (i .signals .count + 1)) _ _ (omega arith) (c .before .default .given .1) (c .before .before .before .signal-at .ensures) ∙ i .inv .1,
     )
 
 returns : tie.Need-returns Inv-loop μ-loop
 returns c =
     let i = c .before .before .before .loop in (
-      turned _ _ signalSaid (mostSignals - i .signals .count) _ _ (omega arith) (c .enum-told .given .1) (c .before .before .signal-from .ensures) ∙ i .inv .1,
+      turned _ _ signalSaid (mostSignals - i .signals .count) _ _ (omega arith) (c .enum-told .given .1) (c .before .before .signal-at .ensures) ∙ i .inv .1,
       i .inv .0,
     )
 
 returns-2 : tie.Need-returns-2 Inv-loop μ-loop
 returns-2 c =
     let i = c .before .before .before .before .loop in (
-      turned _ _ signalSaid (mostSignals - i .signals .count) _ _ (omega arith) (c .before .answer .given .1) (c .before .before .before .signal-from .ensures) ∙ i .inv .1,
+      turned _ _ signalSaid (mostSignals - i .signals .count) _ _ (omega arith) (c .before .answer .given .1) (c .before .before .before .signal-at .ensures) ∙ i .inv .1,
       i .inv .0,
     )
 
