@@ -1,9 +1,15 @@
 // The library for firmware: document 01's functions under C names. Each gives back the number of its answer, and its place through the last parameter.
+use machine::Machine;
+use machine::Stepped;
 ghost use mathlib.Core.Path.{_≡_};
 ghost use lib.ListN.{length};
+ghost use Rattle.rules.specs.Numbers.{told};
 ghost use Rattle.rules.specs.Reading.{readSays};
 ghost use Rattle.rules.specs.Loading.{loadSays};
 ghost use Rattle.plan.specs.Planning.{planTold, planOut};
+ghost use Rattle.machine.specs.Calls.{unloaded, stepOf, readOf, writeOf};
+ghost use Rattle.machine.specs.Load.{loadLeaves};
+ghost use Rattle.export.specs.After.{leaves, afterOf, wordOf};
 
 // Reading a table: 0, or 1 to 11.
 #[no_mangle]
@@ -38,4 +44,117 @@ pub extern "C" fn press_check(table: &[u8], schedule: &[u8], place: &mut usize) 
     let answer = judge::check_schedule(table, schedule);
     *place = answers::place(answer);
     answers::number(answer)
+}
+
+// What a call leaves: number and place of its answer, and the machine after it.
+pub struct After {
+    pub number: u8,
+    pub place: usize,
+    pub machine: Machine,
+}
+
+// The number of a read's answer, and its word.
+pub struct Word {
+    pub number: u8,
+    pub word: u32,
+}
+
+fn after_call(next: Stepped) -> After
+    ensures { λ r. ⌜ r ≡ afterOf next ⌝ }
+{
+    let answer = next.answer;
+    let machine = next.machine;
+    After {
+        number: answers::number(answer),
+        place: answers::place(answer),
+        machine: machine,
+    }
+}
+
+fn after_load<'a>(machine: Machine, table: &'a [u8], schedule: &'a [u8]) -> After
+    ensures { λ r. ⌜ r ≡ leaves (loadSays (now (table .entry)) (now (schedule .entry))) (loadLeaves machine (now (table .entry)) (now (schedule .entry))) ⌝ }
+{
+    after_call(machine.load(table, schedule))
+}
+
+fn after_step(machine: Machine) -> After
+    ensures { λ r. ⌜ r ≡ afterOf (stepOf machine) ⌝ }
+{
+    after_call(machine.step())
+}
+
+fn after_write(machine: Machine, task: usize, signal: usize, word: u32) -> After
+    ensures { λ r. ⌜ r ≡ afterOf (writeOf machine task signal word) ⌝ }
+{
+    after_call(machine.write(task, signal, word))
+}
+
+fn word_read(machine: Machine, task: usize, signal: usize) -> Word
+    ensures { λ r. ⌜ r ≡ wordOf (readOf machine task signal) ⌝ }
+{
+    let read = machine.read(task, signal);
+    let answer = read.answer;
+    Word {
+        number: answers::number(answer),
+        word: read.word,
+    }
+}
+
+// A machine before its first loading, in memory that the caller lends.
+#[no_mangle]
+pub extern "C" fn press_new(machine: &mut Machine)
+    ensures { λ _. ⌜ now (machine .exit) ≡ unloaded ⌝ }
+{
+    *machine = Machine::new();
+}
+
+// Loading: 0, 1 to 11 for the table, or 15 to 22. A refused one leaves the machine running.
+#[no_mangle]
+pub extern "C" fn press_load<'a>(
+    machine: &mut Machine,
+    table: &'a [u8],
+    schedule: &'a [u8],
+    place: &mut usize,
+) -> u8
+    ensures { λ r. ⌜ (r ≡ loadSays (now (table .entry)) (now (schedule .entry)) .number)
+        × (now (place .exit) ≡ loadSays (now (table .entry)) (now (schedule .entry)) .place)
+        × (now (machine .exit) ≡ loadLeaves (now (machine .entry)) (now (table .entry)) (now (schedule .entry))) ⌝ }
+{
+    let after = after_load(*machine, table, schedule);
+    *machine = after.machine;
+    *place = after.place;
+    after.number
+}
+
+// The next tick: 0, or 25.
+#[no_mangle]
+pub extern "C" fn press_step(machine: &mut Machine) -> u8
+    ensures { λ r. ⌜ (r ≡ told (stepOf (now (machine .entry)) .answer) .number)
+        × (now (machine .exit) ≡ stepOf (now (machine .entry)) .machine) ⌝ }
+{
+    let after = after_step(*machine);
+    *machine = after.machine;
+    after.number
+}
+
+// What a task reads of a signal now: 0 with the word, or 23 to 25 with word 0.
+#[no_mangle]
+pub extern "C" fn press_read(machine: &Machine, task: usize, signal: usize, word: &mut u32) -> u8
+    ensures { λ r. ⌜ (r ≡ told (readOf (now (machine .entry)) task signal .answer) .number)
+        × (now (word .exit) ≡ readOf (now (machine .entry)) task signal .word) ⌝ }
+{
+    let read = word_read(*machine, task, signal);
+    *word = read.word;
+    read.number
+}
+
+// A task's write to a signal: 0, or 23 to 25.
+#[no_mangle]
+pub extern "C" fn press_write(machine: &mut Machine, task: usize, signal: usize, word: u32) -> u8
+    ensures { λ r. ⌜ (r ≡ told (writeOf (now (machine .entry)) task signal word .answer) .number)
+        × (now (machine .exit) ≡ writeOf (now (machine .entry)) task signal word .machine) ⌝ }
+{
+    let after = after_write(*machine, task, signal, word);
+    *machine = after.machine;
+    after.number
 }

@@ -18,6 +18,7 @@ ghost use Rattle.machine.specs.Calls.{unloaded, stepOf, readOf, writeOf}
 ghost use Rattle.machine.specs.Started.{given, started, Checked};
 ghost use Rattle.machine.specs.Load.{Loads};
 
+#[repr(C)]
 pub struct Machine {
     pub loaded: bool,
     pub hyper: u32,
