@@ -9,17 +9,18 @@ use mathlib.Core.Option.{Option, none, some}
 use mathlib.Core.Path.{_≡_, refl, ap, subst}
 use lib.Dec.{leb, ltb, eqb}
 use lib.ListN.{length, getD}
-use borrow.Author.Tests.{eqb-true, eqb-false, eq-eqb, ltb-true, ltb-false, lt-ltb, leb-true, leb-false, not-false}
+use borrow.Author.Tests.{eqb-true, eqb-false, eq-eqb, ltb-true, ltb-false, lt-ltb, leb-true, leb-false, le-leb, not-false}
 use Rattle.rules.specs.Words.{total, gather, when, maybe, lowest}
 use Rattle.rules.specs.Windows.{Table, opens, closes, hyper, instances}
 use Rattle.rules.specs.Values.{Value, carried, by, signalOf, bound, IsValue}
 use Rattle.rules.specs.Table.{longest, mostInstances, mostUses, uses, single, everyWriter, Fits}
 use Rattle.rules.specs.Schedule.{Schedule, most, room, elementOf, base, clash}
+use Rattle.rules.specs.Plan.{liveList, plan}
 use Rattle.rules.specs.Fields.{EN}
-use Rattle.rules.specs.Bytes.{Part, bf, wi, ri, fixed, size, startOf, parts, scheduleIn}
+use Rattle.rules.specs.Bytes.{Part, bf, wi, ri, fixed, size, startOf, parts, scheduleLength, scheduleIn}
 use Rattle.rules.specs.Numbers.{Told, tell, wrongReader, shared}
-use Rattle.rules.specs.Answers.{standsAt, freeFits, freeNumber, recordsSay, endSays, firstSays, sentWrong, sharing, wholeSays, tableSays, checkSays}
-use Rattle.theory.specs.First.{FirstBroken, done, this, later, FirstOne, NoneBroken, TableRule, no-task, long-hyper, many-instances, many-uses, two-publish, Twice, tableRules, tableTold, TableFirst, TableDone, CheckRule, cut, differs, out-of-range, bytes-after, sum-above, sent-wrong, shares, endAt, recordRules, readerRules, writerRules, checkRules, Differs, Before, Shares, BrokenCheck, checkTold, CheckFirst, CheckDone}
+use Rattle.rules.specs.Answers.{standsAt, freeFits, freeNumber, recordsSay, endSays, firstSays, sentWrong, sharing, wholeSays, tableSays, planSays, liveSays, checkSays}
+use Rattle.theory.specs.First.{FirstBrokenElse, FirstBroken, done, this, later, FirstOne, NoneBroken, TableRule, no-task, long-hyper, many-instances, many-uses, two-publish, Twice, tableRules, tableTold, TableFirst, TableDone, many-elements, many-in-all, short-buffer, PlanFirst, LiveFirst, CheckRule, cut, differs, out-of-range, bytes-after, sum-above, sent-wrong, shares, endAt, recordRules, readerRules, writerRules, checkRules, Differs, Before, Shares, BrokenCheck, checkTold, CheckFirst, CheckDone}
 use Rattle.theory.proofs.Tests.{split, both, no-test, not-is, and-is, and-not, or-cases, or-left, or-right, unless, not-unless}
 use Rattle.theory.proofs.Lists.{All}
 use Rattle.theory.proofs.Check.{writer-at, writer-not, apart-if, clash-at}
@@ -28,27 +29,27 @@ use Rattle.theory.proofs.Checked.{Of, parts-of, apart-from}
 -- ---- rules in their order
 
 pub first-one : {A : Type 0} (Broken : A → Type 0) (says : A → Told) → FirstOne Broken says
-first-one Broken says [] t u done done = refl
-first-one Broken says (x ∷ xs) t u (this b) (this c) = refl
-first-one Broken says (x ∷ xs) t u (this b) (later n q) = absurd (n b)
-first-one Broken says (x ∷ xs) t u (later n p) (this b) = absurd (n b)
-first-one Broken says (x ∷ xs) t u (later n p) (later m q) = first-one Broken says xs t u p q
+first-one Broken says o [] t u done done = refl
+first-one Broken says o (x ∷ xs) t u (this b) (this c) = refl
+first-one Broken says o (x ∷ xs) t u (this b) (later n q) = absurd (n b)
+first-one Broken says o (x ∷ xs) t u (later n p) (this b) = absurd (n b)
+first-one Broken says o (x ∷ xs) t u (later n p) (later m q) = first-one Broken says o xs t u p q
 
-module _ {A : Type 0} {Broken : A → Type 0} {says : A → Told} where
+module _ {A : Type 0} {Broken : A → Type 0} {says : A → Told} {otherwise : Told} where
   -- one test of a ladder, exact for its rule
-  pub rung : {b : Bool} {x : A} {xs : List A} {t : Told} → (b ≡ true) ↔ Broken x → FirstBroken Broken says xs t → FirstBroken Broken says (x ∷ xs) (when b (says x) t)
+  pub rung : {b : Bool} {x : A} {xs : List A} {t : Told} → (b ≡ true) ↔ Broken x → FirstBrokenElse Broken says otherwise xs t → FirstBrokenElse Broken says otherwise (x ∷ xs) (when b (says x) t)
   unfolding when
   rung {b = true} e r = this (e .0 refl)
   rung {b = false} e r = later (λ h. false≢true (e .1 h)) r
 
   -- the lowest number that passes a test, exact for each number's rule
-  pub lowest-rung : {t : Told} (rule : ℕ → A) (p : ℕ → Bool) (xs : List A) (n : ℕ) → ((s : ℕ) → s < n → (p s ≡ true) ↔ Broken (rule s)) → FirstBroken Broken says xs t
-      → FirstBroken Broken says (gather n (λ s. rule s ∷ []) ++ xs) (maybe (lowest p n) t (λ s. says (rule s)))
+  pub lowest-rung : {t : Told} (rule : ℕ → A) (p : ℕ → Bool) (xs : List A) (n : ℕ) → ((s : ℕ) → s < n → (p s ≡ true) ↔ Broken (rule s)) → FirstBrokenElse Broken says otherwise xs t
+      → FirstBrokenElse Broken says otherwise (gather n (λ s. rule s ∷ []) ++ xs) (maybe (lowest p n) t (λ s. says (rule s)))
   unfolding gather lowest when
   lowest-rung rule p xs zero e r = r
   lowest-rung {t} rule p xs (suc n) e r =
       rw (append-assoc (gather n (λ s. rule s ∷ [])) (rule n ∷ []) xs)
-      (subst (FirstBroken Broken says _) (same (lowest p n) (p n)) (lowest-rung rule p (rule n ∷ xs) n (λ s h. e s (omega arith)) (rung (e n (omega arith)) r)))
+      (subst (FirstBrokenElse Broken says otherwise _) (same (lowest p n) (p n)) (lowest-rung rule p (rule n ∷ xs) n (λ s h. e s (omega arith)) (rung (e n (omega arith)) r)))
     where
       same : (o : Option ℕ) (b : Bool) → maybe o (when b (says (rule n)) t) (λ s. says (rule s)) ≡ maybe (maybe o (cond b (some n) none) some) t (λ s. says (rule s))
       same none true = refl
@@ -56,15 +57,18 @@ module _ {A : Type 0} {Broken : A → Type 0} {says : A → Told} where
       same (some k) b = refl
 
   -- where each rule has a number, 0 says that none is broken
-  pub done-exactly : ((x : A) → says x .number ≢ 0) → (xs : List A) (t : Told) → FirstBroken Broken says xs t → (t .number ≡ 0) ↔ NoneBroken Broken xs
-  done-exactly z [] t done = ((λ e. tt), λ n. refl)
-  done-exactly z (x ∷ xs) t (this b) = ((λ e. absurd (z x e)), λ n. absurd (n .0 b))
-  done-exactly z (x ∷ xs) t (later m r) = let d = done-exactly z xs t r in ((λ e. (m, d .0 e)), λ n. d .1 (n .1))
+  pub done-exactly : ((x : A) → says x .number ≢ 0) → otherwise .number ≡ 0 → (xs : List A) (t : Told) → FirstBrokenElse Broken says otherwise xs t → (t .number ≡ 0) ↔ NoneBroken Broken xs
+  done-exactly z d [] t done = ((λ e. tt), λ n. d)
+  done-exactly z d (x ∷ xs) t (this b) = ((λ e. absurd (z x e)), λ n. absurd (n .0 b))
+  done-exactly z d (x ∷ xs) t (later m r) = let i = done-exactly z d xs t r in ((λ e. (m, i .0 e)), λ n. i .1 (n .1))
 
 -- ---- tests that are exact
 
 less : (a b : ℕ) → (ltb a b ≡ true) ↔ (a < b)
 less a b = (ltb-true a b, lt-ltb a b)
+
+at-most : (a b : ℕ) → (leb a b ≡ true) ↔ (a ≤ b)
+at-most a b = (leb-true a b, le-leb a b)
 
 equal : (a b : ℕ) → (eqb a b ≡ true) ↔ (a ≡ b)
 equal a b = (eqb-true a b, eq-eqb a b)
@@ -164,7 +168,7 @@ module _ (tab : Table) where
       (rw (← append-nil (gather (tab .signals) (λ s. two-publish s ∷ []))) (lowest-rung two-publish (λ s. not (single tab s)) [] (tab .signals) twice done)))))
 
   pub table-done : TableDone tab
-  table-done = done-exactly numbered (tableRules tab) (tableSays tab) table-first
+  table-done = done-exactly numbered refl (tableRules tab) (tableSays tab) table-first
     where
       numbered : (x : TableRule) → tableTold x .number ≢ 0
       numbered no-task e = omega arith
@@ -172,6 +176,19 @@ module _ (tab : Table) where
       numbered many-instances e = omega arith
       numbered many-uses e = omega arith
       numbered (two-publish s) e = omega arith
+
+  -- ---- planning and the live list
+
+  pub plan-first : (lent : ℕ) → PlanFirst tab lent
+  unfolding planSays
+  plan-first lent =
+      lowest-rung many-elements (λ s. ltb (most tab) (plan tab .count s)) (many-in-all ∷ short-buffer ∷ []) (tab .signals) (λ s y. less (most tab) (plan tab .count s))
+      (rung (less (room tab) (base (plan tab) (tab .signals)))
+      (rung (less lent (scheduleLength tab)) done))
+
+  pub live-first : (s lent : ℕ) → LiveFirst tab s lent
+  unfolding liveSays
+  live-first s lent = rung (at-most (tab .signals) s) (rung (less (most tab) (plan tab .count s)) (rung (less lent (length (liveList tab s))) done))
 
   -- ---- the schedule
 
@@ -253,7 +270,7 @@ module _ (tab : Table) where
       (rw (← append-nil (flatMap writerRules (parts tab))) (walk-first bytes (sharing tab (scheduleIn tab bytes)) shared writerRules (writer-first bytes F) (parts tab) _ _ (parts-of tab) done)))))))
 
   pub check-done : CheckDone tab
-  check-done F bytes = done-exactly numbered (checkRules tab) (checkSays tab bytes) (check-first F bytes)
+  check-done F bytes = done-exactly numbered refl (checkRules tab) (checkSays tab bytes) (check-first F bytes)
     where
       numbered : (x : CheckRule) → checkTold tab x .number ≢ 0
       numbered (cut p n) e = omega arith

@@ -1,4 +1,5 @@
--- Document 01, "What comes back": the answer is that of the first rule that is broken, with its place. proofs/First.antt proves it for 7 to 11 and 15 to 22. Assumes nothing.
+-- Document 01, "What comes back": the answer is that of the first rule that is broken, with its place. proofs/First.antt proves it for 7 to 11, for
+-- planning (12, 13, 14), for the live list (23, 12, 14) and for 15 to 22. Assumes nothing.
 use Prim.Native.Nat.{ℕ, _+_, _≤_, _<_}
 use mathlib.Core.Path.{_≡_}
 use mathlib.Core.List.{List, [], _∷_, _++_, flatMap}
@@ -9,20 +10,25 @@ use Rattle.rules.specs.Windows.{Table, opens, closes, hyper, instances}
 use Rattle.rules.specs.Values.{Value, carried, by, signalOf, bound, Live, IsValue}
 use Rattle.rules.specs.Table.{longest, mostInstances, mostUses, uses, Fits}
 use Rattle.rules.specs.Schedule.{Schedule, most, room, elementOf, base}
+use Rattle.rules.specs.Plan.{liveList, plan}
 use Rattle.rules.specs.Fields.{EN}
-use Rattle.rules.specs.Bytes.{Part, bf, wi, ri, fixed, size, sizeOf, startOf, parts, scheduleIn}
-use Rattle.rules.specs.Numbers.{Told, tell, allDone, noTask, longHyper, manyInstances, manyUses, twoPublish, scheduleCut, notFixed, badCount, badElement, afterSchedule, sumAbove, wrongReader, shared}
-use Rattle.rules.specs.Answers.{tableSays, checkSays}
+use Rattle.rules.specs.Bytes.{Part, bf, wi, ri, fixed, size, sizeOf, startOf, parts, scheduleLength, scheduleIn}
+use Rattle.rules.specs.Numbers.{Told, tell, allDone, noTask, longHyper, manyInstances, manyUses, twoPublish, manyElements, manyInAll, tooShort, scheduleCut, notFixed, badCount, badElement, afterSchedule, sumAbove, wrongReader, shared, noAccess}
+use Rattle.rules.specs.Answers.{tableSays, planSays, liveSays, checkSays}
 
--- Rules in their order: the first that is broken gives the answer; where none is, all is done.
-pub data FirstBroken {A : Type 0} (Broken : A → Type 0) (says : A → Told) : List A → Told → Type 0 where
-  done : FirstBroken Broken says [] (tell allDone 0)
-  this : {x : A} {xs : List A} → Broken x → FirstBroken Broken says (x ∷ xs) (says x)
-  later : {x : A} {xs : List A} {t : Told} → (Broken x → ⊥) → FirstBroken Broken says xs t → FirstBroken Broken says (x ∷ xs) t
+-- Rules in their order: the first that is broken gives the answer; where none is, `otherwise` is told.
+pub data FirstBrokenElse {A : Type 0} (Broken : A → Type 0) (says : A → Told) (otherwise : Told) : List A → Told → Type 0 where
+  done : FirstBrokenElse Broken says otherwise [] otherwise
+  this : {x : A} {xs : List A} → Broken x → FirstBrokenElse Broken says otherwise (x ∷ xs) (says x)
+  later : {x : A} {xs : List A} {t : Told} → (Broken x → ⊥) → FirstBrokenElse Broken says otherwise xs t → FirstBrokenElse Broken says otherwise (x ∷ xs) t
 
 -- So the rules and their order determine the answer.
 abbrev pub FirstOne : {A : Type 0} → (A → Type 0) → (A → Told) → Type 0
-FirstOne {A} Broken says = (xs : List A) (t u : Told) → FirstBroken Broken says xs t → FirstBroken Broken says xs u → t ≡ u
+FirstOne {A} Broken says = (otherwise : Told) (xs : List A) (t u : Told) → FirstBrokenElse Broken says otherwise xs t → FirstBrokenElse Broken says otherwise xs u → t ≡ u
+
+-- Where none is broken and nothing was planned or filled, all is done at place 0.
+abbrev pub FirstBroken : {A : Type 0} → (A → Type 0) → (A → Told) → List A → Told → Type 0
+FirstBroken Broken says = FirstBrokenElse Broken says (tell allDone 0)
 
 -- no rule of the list is broken
 abbrev pub NoneBroken : {A : Type 0} → (A → Type 0) → List A → Type 0
@@ -76,6 +82,60 @@ TableFirst tab = FirstBroken (BrokenTable tab) tableTold (tableRules tab) (table
 -- So 0 is given exactly where no rule is broken.
 abbrev pub TableDone : Table → Type 0
 TableDone tab = (tableSays tab .number ≡ allDone) ↔ NoneBroken (BrokenTable tab) (tableRules tab)
+
+-- ---- planning: 12 to 14
+
+pub data PlanRule : Type 0 where
+  many-elements : (signal : ℕ) → PlanRule
+  many-in-all : PlanRule
+  short-buffer : PlanRule
+
+-- in the order of document 01, signals by number
+abbrev pub planRules : Table → List PlanRule
+planRules tab = gather (tab .signals) (λ s. many-elements s ∷ []) ++ (many-in-all ∷ short-buffer ∷ [])
+
+-- when each is given, with a lent buffer of so many bytes
+abbrev pub BrokenPlan : Table → ℕ → PlanRule → Type 0
+BrokenPlan tab lent (many-elements s) = most tab < plan tab .count s
+BrokenPlan tab lent many-in-all = room tab < base (plan tab) (tab .signals)
+BrokenPlan tab lent short-buffer = lent < scheduleLength tab
+
+-- number and place
+abbrev pub planRuleTold : Table → PlanRule → Told
+planRuleTold tab (many-elements s) = tell manyElements s
+planRuleTold tab many-in-all = tell manyInAll 0
+planRuleTold tab short-buffer = tell tooShort (scheduleLength tab)
+
+-- The answer is that of the first broken rule; where none is, it tells the bytes planned.
+abbrev pub PlanFirst : Table → ℕ → Type 0
+PlanFirst tab lent = FirstBrokenElse (BrokenPlan tab lent) (planRuleTold tab) (tell allDone (scheduleLength tab)) (planRules tab) (planSays tab lent)
+
+-- ---- the live list: 23, 12, 14
+
+pub data LiveRule : Type 0 where
+  no-signal : LiveRule
+  many-of-it : LiveRule
+  short-list : LiveRule
+
+-- in the order of document 01
+abbrev pub liveRules : List LiveRule
+liveRules = no-signal ∷ many-of-it ∷ short-list ∷ []
+
+-- when each is given for signal s, with a lent list of so many records
+abbrev pub BrokenLive : Table → (s lent : ℕ) → LiveRule → Type 0
+BrokenLive tab s lent no-signal = tab .signals ≤ s
+BrokenLive tab s lent many-of-it = most tab < plan tab .count s
+BrokenLive tab s lent short-list = lent < length (liveList tab s)
+
+-- number and place
+abbrev pub liveRuleTold : Table → ℕ → LiveRule → Told
+liveRuleTold tab s no-signal = tell noAccess 0
+liveRuleTold tab s many-of-it = tell manyElements s
+liveRuleTold tab s short-list = tell tooShort (length (liveList tab s))
+
+-- The answer is that of the first broken rule; where none is, it tells the records filled.
+abbrev pub LiveFirst : Table → (s lent : ℕ) → Type 0
+LiveFirst tab s lent = FirstBrokenElse (BrokenLive tab s lent) (liveRuleTold tab s) (tell allDone (length (liveList tab s))) liveRules (liveSays tab s lent)
 
 -- ---- the schedule: 15 to 22
 
