@@ -105,6 +105,56 @@ fn refusal_rows() {
     }
 }
 
+/// Two machines with the table and its plan.
+fn loaded(name: &str) -> (plain::Machine, plain::Machine) {
+    let bytes = table(name);
+    let schedule = planned(&bytes);
+    let mut one = plain::Machine::new();
+    let mut other = plain::Machine::new();
+    assert_eq!(ours::load(&mut one, &bytes, &schedule), (0, 0));
+    assert!(other.load(&bytes, &schedule).is_ok());
+    (one, other)
+}
+
+/// The first task and signal for which a call is done.
+fn permitted(done: impl Fn(usize, usize) -> bool) -> (usize, usize) {
+    (0..16 * 32).map(|cell| (cell / 32, cell % 32)).find(|&(task, signal)| done(task, signal)).expect("some access")
+}
+
+fn machine_rows() {
+    let names = ["writer", "all", "wide", "burst"];
+    for name in names {
+        let bytes = table(name);
+        let schedule = planned(&bytes);
+        let (mut one, mut other) = loaded(name);
+        row("load", name, "1200000", 10, || ours::load(&mut one, &bytes, &schedule), || other.load(&bytes, &schedule).is_ok());
+    }
+    for name in names {
+        let (mut one, mut other) = loaded(name);
+        let (hyper, busiest) = tables::busiest(&table(name));
+        // every step of a hyper-period, then the busiest
+        row("step", name, "-", hyper, || ours::step(&mut one), || other.step().is_ok());
+        for _ in 1..busiest {
+            assert!(other.step().is_ok());
+        }
+        one = other.clone();
+        row("step:most", name, "-", 1, || ours::step(&mut one), || other.step().is_ok());
+        assert!(one == other);
+    }
+    for name in names {
+        let (_, mut other) = loaded(name);
+        for _ in 0..20 {
+            assert!(other.step().is_ok());
+        }
+        let mut one = other.clone();
+        let (task, signal) = permitted(|task, signal| other.read(task, signal).is_ok());
+        row("word", name, "-", 10, || ours::word(&one, task, signal), || other.read(task, signal).is_ok());
+        let (task, signal) = permitted(|task, signal| other.clone().write(task, signal, 1).is_ok());
+        row("write", name, "-", 10, || ours::write(&mut one, task, signal, 1), || other.write(task, signal, 1).is_ok());
+        assert!(one == other);
+    }
+}
+
 fn main() {
     let words: Vec<String> = std::env::args().skip(1).collect();
     match words.iter().map(String::as_str).collect::<Vec<_>>()[..] {
@@ -116,6 +166,7 @@ fn main() {
             read_rows();
             plan_rows();
             check_rows();
+            machine_rows();
             refusal_rows();
         }
         ["stack"] => stack::rows(),

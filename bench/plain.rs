@@ -571,6 +571,9 @@ fn first_fault(table: &Table, schedule: &[u8]) -> Refused {
 
 // The machine.
 
+/// In the order of the proved machine's fields, so that the two can be compared byte by byte.
+#[repr(C)]
+#[derive(Clone, PartialEq)]
 pub struct Machine {
     loaded: bool,
     hyper: u32,
@@ -611,6 +614,13 @@ impl Machine {
             held: [NONE; MOST_SIGNALS],
             store: [0; WORDS],
         }
+    }
+
+    /// The bytes after the first field and the room behind it: each may have any value.
+    pub fn bytes(&mut self) -> &mut [u8] {
+        let at = std::mem::offset_of!(Machine, hyper);
+        let all = unsafe { std::slice::from_raw_parts_mut((self as *mut Machine).cast::<u8>(), std::mem::size_of::<Machine>()) };
+        &mut all[at..]
     }
 
     #[inline(never)]

@@ -104,9 +104,52 @@ fn same_plan(table: &[u8], room: usize) -> Vec<u8> {
     one
 }
 
+fn word_of(answer: Result<u32, plain::Refused>) -> (u8, u32) {
+    match answer {
+        Ok(word) => (0, word),
+        Err(plain::Refused(number, _)) => (number, 0),
+    }
+}
+
+/// One call on each, after which they are in the same state; at times a byte of both is spoiled first.
+fn same_call(dice: &mut Dice, one: &mut plain::Machine, other: &mut plain::Machine) -> u8 {
+    if dice.one_in(40) {
+        let at = dice.below(one.bytes().len());
+        let byte = dice.of(&[0, 1, 15, 16, 255]);
+        one.bytes()[at] = byte;
+        other.bytes()[at] = byte;
+    }
+    let (task, signal) = (dice.of(&[0, 0, 1, 2, 3, 15, 16, usize::MAX]), dice.of(&[0, 0, 1, 2, 31, 32, usize::MAX]));
+    let word = dice.below(1 << 32) as u32;
+    let number = match dice.below(4) {
+        0 => {
+            let (number, word) = ours::word(one, task, signal);
+            assert_eq!((number, word), word_of(other.read(task, signal)), "a read");
+            number
+        }
+        1 => {
+            let number = ours::write(one, task, signal, word);
+            assert_eq!((number, 0), told(other.write(task, signal, word), |_| 0), "a write");
+            number
+        }
+        _ => {
+            let number = ours::step(one);
+            assert_eq!((number, 0), told(other.step(), |_| 0), "a step");
+            number
+        }
+    };
+    assert!(*one == *other, "the state after a call");
+    number
+}
+
 /// How often each number came back.
 pub fn compare(tables: u64) -> [u64; 26] {
     let mut seen = [0; 26];
+    let mut one = plain::Machine::new();
+    let mut other = plain::Machine::new();
+    one.bytes().fill(0xAA);
+    ours::new(&mut one);
+    assert!(one == other, "a machine before its first loading");
     for seed in 1..=tables {
         let dice = &mut Dice(seed.wrapping_mul(0x9E37_79B9_7F4A_7C15));
         let mut table = match NAMES.get(seed as usize - 1) {
@@ -124,7 +167,18 @@ pub fn compare(tables: u64) -> [u64; 26] {
         for _ in 0..4 {
             let answer = ours::check(&table, &schedule);
             assert_eq!(answer, told(plain::check(&table, &schedule), |_| 0), "checking, seed {seed}");
+            assert_eq!(answer, ours::load(&mut one, &table, &schedule), "loading, seed {seed}");
+            assert_eq!(answer, told(other.load(&table, &schedule), |_| 0), "loading, seed {seed}");
+            assert!(one == other, "the state after loading, seed {seed}");
             seen[answer.0 as usize] += 1;
+            // an unfit machine stays so until it is loaded again
+            let mut number = 0;
+            for _ in 0..dice.below(80) {
+                if number != 25 {
+                    number = same_call(dice, &mut one, &mut other);
+                    seen[number as usize] += 1;
+                }
+            }
             reroute(dice, &mut schedule);
             if dice.one_in(4) {
                 damage(dice, &mut schedule);

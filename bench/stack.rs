@@ -53,4 +53,10 @@ pub fn rows() {
     row("read", depth_of(|| ours::read(&bytes)), depth_of(|| plain::Table::read(&bytes).is_ok()));
     row("plan", depth_of(|| ours::plan(&bytes, &mut out)), depth_of(|| plain::plan(&bytes, &mut other).is_ok()));
     row("check", depth_of(|| ours::check(&bytes, &schedule)), depth_of(|| plain::check(&bytes, &schedule).is_ok()));
+    let mut one = plain::Machine::new();
+    let mut other = plain::Machine::new();
+    row("load", depth_of(|| ours::load(&mut one, &bytes, &schedule)), depth_of(|| other.load(&bytes, &schedule).is_ok()));
+    row("step", depth_of(|| ours::step(&mut one)), depth_of(|| other.step().is_ok()));
+    row("word", depth_of(|| ours::word(&one, 0, 0)), depth_of(|| other.read(0, 0).is_ok()));
+    row("write", depth_of(|| ours::write(&mut one, 0, 0, 1)), depth_of(|| other.write(0, 0, 1).is_ok()));
 }

@@ -85,3 +85,14 @@ pub fn table(name: &str) -> Vec<u8> {
         _ => panic!("no such table: {name}"),
     }
 }
+
+/// The hyper-period, and the step in which the most windows close and open.
+pub fn busiest(bytes: &[u8]) -> (usize, usize) {
+    let records = bytes.chunks(14).take_while(|record| record.starts_with(b"TK"));
+    let field = |record: &[u8], at: usize| u32::from_be_bytes(record[at..at + 4].try_into().unwrap()) as usize;
+    let tasks: Vec<[usize; 3]> = records.map(|record| [field(record, 2), field(record, 6), field(record, 10)]).collect();
+    let all_repeat = |tick: &usize| tasks.iter().all(|[period, ..]| tick % period == 0);
+    let hyper = (1..).find(all_repeat).unwrap();
+    let events = |tick: &usize| tasks.iter().map(|[period, start, end]| (tick % period == end % period) as usize + (tick % period == *start) as usize).sum::<usize>();
+    (hyper, (1..=hyper).max_by_key(events).unwrap())
+}
