@@ -1,17 +1,13 @@
 // `load HEX`, `step K`, `read TASK SIGNAL` and `write TASK SIGNAL WORD`: the machine, which runs on under another kept table.
 use crate::bench::Bench;
 use crate::tell::bad_line;
-use crate::tell::end_of_answer;
-use crate::tell::put_answer;
 use crate::tell::tell;
+use crate::tell::tell_with;
 use crate::turns::turns_left;
 use answers::number;
 use console::command::MOST_WORD;
 use console::digits::decode;
 use console::page::front;
-use console::page::put;
-use console::page::put_decimal;
-use console::words::SPACE;
 use console::words::after_word;
 use machine::Machine;
 use machine::Stepped;
@@ -56,15 +52,10 @@ pub fn step_machine(k: u64, out: &mut [u8], bench: Bench) -> Bench {
 }
 
 pub fn read_machine(task: usize, signal: usize, out: &mut [u8], bench: Bench) -> Bench {
-    let mut after = bench;
     let machine = bench.machine;
     let read = machine.read(task, signal);
     let answer = read.answer;
-    let told = put_answer(out, bench.waiting, answer);
-    let spaced = put(out, told, SPACE);
-    let shown = put_decimal(out, spaced, read.word as u64);
-    after.waiting = end_of_answer(out, shown);
-    after
+    tell_with(out, answer, read.word as u64, bench)
 }
 
 pub fn write_machine(task: usize, signal: usize, word: u64, out: &mut [u8], bench: Bench) -> Bench {

@@ -37,6 +37,16 @@ pub fn tell(out: &mut [u8], answer: Answer, bench: Bench) -> Bench {
     after
 }
 
+// Number, place and one number more.
+pub fn tell_with(out: &mut [u8], answer: Answer, more: u64, bench: Bench) -> Bench {
+    let mut after = bench;
+    let told = put_answer(out, bench.waiting, answer);
+    let spaced = put(out, told, SPACE);
+    let shown = put_decimal(out, spaced, more);
+    after.waiting = end_of_answer(out, shown);
+    after
+}
+
 pub fn bad_line(out: &mut [u8], bench: Bench) -> Bench
     ensures { λ r. ⌜ page (now (out .exit)) (r .waiting) ≡ putAll badLine (page (now (out .entry)) (bench .waiting)) ⌝ }
 {

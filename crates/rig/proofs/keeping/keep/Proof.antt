@@ -10,7 +10,7 @@ use Rattle.rig.proofs.keeping.keep.Tie as tie
 
 returns : tie.Need-returns
 returns c =
-    let at-decode = c .before .before .before .before .before .before .before .before .before .before .before .before .before .before .before .before .before .before .before .before .before .before in
+    let at-decode = c .before .before .before .before .before .before .before .before .before .before in
     let at-after-word = at-decode .before .before in
     let start = at-after-word .before .before .before .before in
     at-decode .decode .ensures ∙ ap (λ (w : List ℕ). putAll (bytesOf w) (page (start .args .kept .now) 0)) (at-after-word .after-word .ensures)
@@ -23,10 +23,7 @@ keep-spec =
     (λ c κs. search needs)
     (λ c κs. search needs)
     (λ c κs. search needs)
-    (λ c κs. search needs)
-    (λ c κs. search needs)
     (λ c. search needs)
-    (λ c κs. search needs)
     (λ c κs. search needs)
     (λ c. search needs)
     (λ c. search needs)
