@@ -2,6 +2,7 @@
 use events::KIND;
 use events::MOST_EVENTS;
 use events::TICK;
+use fields::wide;
 use rules::BF_BYTES;
 use rules::CARRIED_ELEMENT;
 use rules::ELEMENT_AT;
@@ -25,7 +26,7 @@ ghost use Rattle.rules.specs.Bytes.{sizeOf, scheduleIn};
 ghost use Rattle.theory.specs.Sweep.{sweep};
 
 // A closing and an opening for each task.
-pub const KINDS: usize = 2 * MOST_TASKS;
+pub const KINDS: usize = TICK as usize;
 
 // What the pass keeps beside the until-ticks: no mistake was met; the element of the value that stands; the last closing of the
 // readers that opened since it was published.
@@ -60,12 +61,6 @@ pub struct Turn {
     pub task: Task,
     pub readers: usize,
     pub writers: usize,
-}
-
-fn wide(b: u8) -> usize
-    ensures { λ r. ⌜ r ≡ b ⌝ }
-{
-    b as usize
 }
 
 fn larger(a: u32, b: u32) -> u32
