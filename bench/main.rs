@@ -10,8 +10,13 @@ mod tables;
 use std::hint::black_box;
 use tables::table;
 
-/// Longer than any schedule needs.
+/// The longest schedule.
 const ROOM: usize = 28_802;
+
+/// Limits on instructions; a step, a read and a write are held to the plain code.
+const TABLE_BUDGET: &str = "400000";
+const BUDGET: &str = "1200000";
+const GOAL: &str = "1.5x";
 
 /// The counting starts and ends where these are called: `bench/run` names them to callgrind.
 #[no_mangle]
@@ -35,7 +40,14 @@ fn counted<T>(times: usize, mut call: impl FnMut() -> T) {
 }
 
 /// One row: the call and its table, the budget, and how many calls were counted, of the proved code and then of the plain.
-fn row<A, B>(call: &str, name: &str, budget: &str, times: usize, ours: impl FnMut() -> A, plain: impl FnMut() -> B) {
+fn row<A, B>(
+    call: &str,
+    name: &str,
+    budget: &str,
+    times: usize,
+    ours: impl FnMut() -> A,
+    plain: impl FnMut() -> B,
+) {
     println!("{call} {name} {budget} {times}");
     counted(times, ours);
     counted(times, plain);
@@ -49,11 +61,23 @@ fn planned(table: &[u8]) -> Vec<u8> {
     schedule
 }
 
-fn read_rows() {
-    for name in ["writer", "all", "wide", "half", "quarter", "writes", "clash"] {
+fn table_rows() {
+    for name in [
+        "writer", "all", "wide", "half", "quarter", "writes", "clash",
+    ] {
         let bytes = table(name);
-        assert_eq!(ours::read(&bytes), if name == "clash" { (11, 31) } else { (0, 0) });
-        row("read", name, "400000", 10, || ours::read(&bytes), || plain::Table::read(&bytes).is_ok());
+        assert_eq!(
+            ours::table(&bytes),
+            if name == "clash" { (11, 31) } else { (0, 0) }
+        );
+        row(
+            "table",
+            name,
+            TABLE_BUDGET,
+            10,
+            || ours::table(&bytes),
+            || plain::Table::read(&bytes).is_ok(),
+        );
     }
 }
 
@@ -62,7 +86,14 @@ fn plan_rows() {
         let bytes = table(name);
         let mut out = planned(&bytes);
         let mut other = out.clone();
-        row("plan", name, "1200000", 10, || ours::plan(&bytes, &mut out), || plain::plan(&bytes, &mut other).is_ok());
+        row(
+            "plan",
+            name,
+            BUDGET,
+            10,
+            || ours::plan(&bytes, &mut out),
+            || plain::plan(&bytes, &mut other).is_ok(),
+        );
         assert!(out == other);
     }
 }
@@ -72,36 +103,53 @@ fn check_rows() {
         let bytes = table(name);
         let schedule = planned(&bytes);
         assert_eq!(ours::check(&bytes, &schedule), (0, 0));
-        row("check", name, "1200000", 10, || ours::check(&bytes, &schedule), || plain::check(&bytes, &schedule).is_ok());
+        row(
+            "check",
+            name,
+            BUDGET,
+            10,
+            || ours::check(&bytes, &schedule),
+            || plain::check(&bytes, &schedule).is_ok(),
+        );
     }
 }
 
-/// The plan with its last WI, or its last RI, in another element.
+/// The plan with one element changed, as late as possible, so that the answer is this number.
 fn broken(bytes: &[u8], mark: &[u8; 2], number: u8) -> Vec<u8> {
-    let mut schedule = planned(bytes);
-    let count = schedule.chunks(1).len();
-    for at in (0..count - 7).rev() {
-        if schedule[at..].starts_with(mark) {
-            let right = schedule[at + 6];
-            for element in 0..32 {
-                schedule[at + 6] = element;
-                if ours::check(bytes, &schedule).0 == number {
-                    return schedule;
-                }
-            }
-            schedule[at + 6] = right;
-        }
-    }
-    panic!("no record gives {number}");
+    let plan = planned(bytes);
+    let records = (0..plan.len() - 7)
+        .rev()
+        .filter(|&at| plan[at..].starts_with(mark));
+    let changes = records.flat_map(|at| (0..32).map(move |element| (at, element)));
+    let changed = |(at, element)| {
+        let mut schedule = plan.clone();
+        schedule[at + 6] = element;
+        schedule
+    };
+    changes
+        .map(changed)
+        .find(|schedule| ours::check(bytes, schedule).0 == number)
+        .expect("such a record")
 }
 
 /// A refusal pays for the search of its place; no budget holds for it.
 fn refusal_rows() {
-    for (name, mark, number) in [("all", b"RI", 21), ("all", b"WI", 22), ("writer", b"WI", 22)] {
+    for (name, mark, number) in [
+        ("all", b"RI", 21),
+        ("all", b"WI", 22),
+        ("writer", b"WI", 22),
+    ] {
         let bytes = table(name);
         let schedule = broken(&bytes, mark, number);
         assert_eq!(ours::check(&bytes, &schedule).0, number);
-        row(&format!("check:{number}"), name, "-", 1, || ours::check(&bytes, &schedule), || plain::check(&bytes, &schedule).is_ok());
+        row(
+            &format!("check:{number}"),
+            name,
+            "-",
+            1,
+            || ours::check(&bytes, &schedule),
+            || plain::check(&bytes, &schedule).is_ok(),
+        );
     }
 }
 
@@ -118,7 +166,10 @@ fn loaded(name: &str) -> (plain::Machine, plain::Machine) {
 
 /// The first task and signal for which a call is done.
 fn permitted(done: impl Fn(usize, usize) -> bool) -> (usize, usize) {
-    (0..16 * 32).map(|cell| (cell / 32, cell % 32)).find(|&(task, signal)| done(task, signal)).expect("some access")
+    (0..16 * 32)
+        .map(|cell| (cell / 32, cell % 32))
+        .find(|&(task, signal)| done(task, signal))
+        .expect("some access")
 }
 
 fn machine_rows() {
@@ -127,18 +178,39 @@ fn machine_rows() {
         let bytes = table(name);
         let schedule = planned(&bytes);
         let (mut one, mut other) = loaded(name);
-        row("load", name, "1200000", 10, || ours::load(&mut one, &bytes, &schedule), || other.load(&bytes, &schedule).is_ok());
+        row(
+            "load",
+            name,
+            BUDGET,
+            10,
+            || ours::load(&mut one, &bytes, &schedule),
+            || other.load(&bytes, &schedule).is_ok(),
+        );
     }
     for name in names {
         let (mut one, mut other) = loaded(name);
         let (hyper, busiest) = tables::busiest(&table(name));
         // every step of a hyper-period, then the busiest
-        row("step", name, "-", hyper, || ours::step(&mut one), || other.step().is_ok());
+        row(
+            "step",
+            name,
+            GOAL,
+            hyper,
+            || ours::step(&mut one),
+            || other.step().is_ok(),
+        );
         for _ in 1..busiest {
             assert!(other.step().is_ok());
         }
         one = other.clone();
-        row("step:most", name, "-", 1, || ours::step(&mut one), || other.step().is_ok());
+        row(
+            "step:most",
+            name,
+            GOAL,
+            1,
+            || ours::step(&mut one),
+            || other.step().is_ok(),
+        );
         assert!(one == other);
     }
     for name in names {
@@ -148,9 +220,23 @@ fn machine_rows() {
         }
         let mut one = other.clone();
         let (task, signal) = permitted(|task, signal| other.read(task, signal).is_ok());
-        row("word", name, "-", 10, || ours::word(&one, task, signal), || other.read(task, signal).is_ok());
+        row(
+            "read",
+            name,
+            GOAL,
+            10,
+            || ours::read(&one, task, signal),
+            || other.read(task, signal).is_ok(),
+        );
         let (task, signal) = permitted(|task, signal| other.clone().write(task, signal, 1).is_ok());
-        row("write", name, "-", 10, || ours::write(&mut one, task, signal, 1), || other.write(task, signal, 1).is_ok());
+        row(
+            "write",
+            name,
+            GOAL,
+            10,
+            || ours::write(&mut one, task, signal, 1),
+            || other.write(task, signal, 1).is_ok(),
+        );
         assert!(one == other);
     }
 }
@@ -163,7 +249,7 @@ fn main() {
             println!("{tables} tables; answers by number: {seen:?}");
         }
         ["rows"] => {
-            read_rows();
+            table_rows();
             plan_rows();
             check_rows();
             machine_rows();

@@ -93,7 +93,11 @@ impl Table {
                     if table.task_count == MOST_TASKS {
                         return Err(Refused(3, at));
                     }
-                    let task = Task { period: word(record, 2), start: word(record, 6), end: word(record, 10) };
+                    let task = Task {
+                        period: word(record, 2),
+                        start: word(record, 6),
+                        end: word(record, 10),
+                    };
                     if task.end <= task.start || task.period < task.end || LONGEST < task.period {
                         return Err(Refused(4, at));
                     }
@@ -226,7 +230,10 @@ impl Events {
         for (k, task) in table.tasks().iter().enumerate() {
             next[k] = task.start * TICK + KIND + k as u32;
         }
-        let mut events = Events { list: [0; MOST_EVENTS], count: 0 };
+        let mut events = Events {
+            list: [0; MOST_EVENTS],
+            count: 0,
+        };
         loop {
             let mut k = 0;
             for j in 1..table.task_count {
@@ -257,7 +264,11 @@ impl Events {
 // Planning.
 
 /// The number of each task's first use of a signal as a writer and as a reader; returns the number after them.
-fn first_uses(table: &Table, signal: usize, from: usize) -> ([usize; MOST_TASKS], [usize; MOST_TASKS], usize) {
+fn first_uses(
+    table: &Table,
+    signal: usize,
+    from: usize,
+) -> ([usize; MOST_TASKS], [usize; MOST_TASKS], usize) {
     let mut writers = [0; MOST_TASKS];
     let mut readers = [0; MOST_TASKS];
     let mut next = from;
@@ -271,7 +282,13 @@ fn first_uses(table: &Table, signal: usize, from: usize) -> ([usize; MOST_TASKS]
 }
 
 /// The elements of a signal's uses; returns how many elements there are and the number of the next signal's first use.
-fn plan_signal(table: &Table, events: &Events, signal: usize, from: usize, uses: &mut [u8; MOST_USES]) -> (u8, usize) {
+fn plan_signal(
+    table: &Table,
+    events: &Events,
+    signal: usize,
+    from: usize,
+    uses: &mut [u8; MOST_USES],
+) -> (u8, usize) {
     let (writers, readers, next) = first_uses(table, signal, from);
     let mut held = [0; MOST_ELEMENTS];
     held[0] = LONGEST;
@@ -294,7 +311,10 @@ fn plan_signal(table: &Table, events: &Events, signal: usize, from: usize, uses:
                 reach = reach.max(i * task.period + task.end);
             }
             if right & WRITE != 0 {
-                let e = held.iter().position(|&until| until <= tick).unwrap_or(MOST_ELEMENTS - 1);
+                let e = held
+                    .iter()
+                    .position(|&until| until <= tick)
+                    .unwrap_or(MOST_ELEMENTS - 1);
                 held[e] = LONGEST;
                 own[k] = e;
                 uses[writers[k] + i as usize] = e as u8;
@@ -329,7 +349,12 @@ pub fn plan(bytes: &[u8], out: &mut [u8]) -> Result<usize, Refused> {
     Ok(length)
 }
 
-fn write_schedule(table: &Table, counts: &[u8; MOST_SIGNALS], uses: &[u8; MOST_USES], out: &mut [u8]) {
+fn write_schedule(
+    table: &Table,
+    counts: &[u8; MOST_SIGNALS],
+    uses: &[u8; MOST_USES],
+    out: &mut [u8],
+) {
     let mut at = 0;
     let mut used = 0;
     for signal in 0..table.signal_count {
@@ -339,7 +364,15 @@ fn write_schedule(table: &Table, counts: &[u8; MOST_SIGNALS], uses: &[u8; MOST_U
             for k in 0..table.task_count {
                 for i in 0..table.records_of(right, k, signal) {
                     let [high, low] = (i as u16).to_be_bytes();
-                    out[at..at + USE_BYTES].copy_from_slice(&[letter, b'I', signal as u8, k as u8, high, low, uses[used]]);
+                    out[at..at + USE_BYTES].copy_from_slice(&[
+                        letter,
+                        b'I',
+                        signal as u8,
+                        k as u8,
+                        high,
+                        low,
+                        uses[used],
+                    ]);
                     at += USE_BYTES;
                     used += 1;
                 }
@@ -356,7 +389,9 @@ fn form(table: &Table, schedule: &[u8]) -> Result<(), Refused> {
     let mut at = 0;
     let mut sum = 0;
     for signal in 0..table.signal_count {
-        let record = schedule[at..].first_chunk::<BF_BYTES>().ok_or(Refused(15, at))?;
+        let record = schedule[at..]
+            .first_chunk::<BF_BYTES>()
+            .ok_or(Refused(15, at))?;
         if record[..3] != [b'B', b'F', signal as u8] {
             return Err(Refused(16, at));
         }
@@ -369,9 +404,12 @@ fn form(table: &Table, schedule: &[u8]) -> Result<(), Refused> {
         for (letter, right) in [(b'W', WRITE), (b'R', READ)] {
             for k in 0..table.task_count {
                 for i in 0..table.records_of(right, k, signal) {
-                    let record = schedule[at..].first_chunk::<USE_BYTES>().ok_or(Refused(15, at))?;
+                    let record = schedule[at..]
+                        .first_chunk::<USE_BYTES>()
+                        .ok_or(Refused(15, at))?;
                     let [high, low] = (i as u16).to_be_bytes();
-                    if record[..BEFORE_ELEMENT] != [letter, b'I', signal as u8, k as u8, high, low] {
+                    if record[..BEFORE_ELEMENT] != [letter, b'I', signal as u8, k as u8, high, low]
+                    {
                         return Err(Refused(16, at));
                     }
                     if count <= record[BEFORE_ELEMENT] {
@@ -409,7 +447,14 @@ impl<'a> Elements<'a> {
             writers[k] = BF_BYTES * (signal + 1) + USE_BYTES * writers[k] + BEFORE_ELEMENT;
             readers[k] = BF_BYTES * (signal + 1) + USE_BYTES * readers[k] + BEFORE_ELEMENT;
         }
-        (Elements { schedule, writers, readers }, next)
+        (
+            Elements {
+                schedule,
+                writers,
+                readers,
+            },
+            next,
+        )
     }
 
     fn writer(&self, task: usize, instance: u32) -> usize {
@@ -538,13 +583,25 @@ fn wrong_reader(table: &Table, signal: usize, elements: &Elements) -> Option<usi
 }
 
 fn shared(table: &Table, signal: usize, elements: &Elements) -> Option<usize> {
-    let mut lives = [Life { element: 0, from: 0, until: until(table, signal, 0) }; MOST_INSTANCES + 1];
+    let mut lives = [Life {
+        element: 0,
+        from: 0,
+        until: until(table, signal, 0),
+    }; MOST_INSTANCES + 1];
     let mut count = 1;
     for (k, task) in table.tasks().iter().enumerate() {
         for i in 0..table.records_of(WRITE, k, signal) {
             let begins = i as u32 * task.period;
-            let life = Life { element: elements.writer(k, i as u32), from: begins + task.start, until: until(table, signal, begins + task.end) };
-            let clash = |earlier: &Life| earlier.element == life.element && earlier.from < life.until && life.from < earlier.until;
+            let life = Life {
+                element: elements.writer(k, i as u32),
+                from: begins + task.start,
+                until: until(table, signal, begins + task.end),
+            };
+            let clash = |earlier: &Life| {
+                earlier.element == life.element
+                    && earlier.from < life.until
+                    && life.from < earlier.until
+            };
             if lives[..count].iter().any(clash) {
                 return Some(elements.writers[k] + USE_BYTES * i - BEFORE_ELEMENT);
             }
@@ -556,7 +613,13 @@ fn shared(table: &Table, signal: usize, elements: &Elements) -> Option<usize> {
 }
 
 fn first_fault(table: &Table, schedule: &[u8]) -> Refused {
-    for (number, search) in [(21, wrong_reader as fn(&Table, usize, &Elements) -> Option<usize>), (22, shared)] {
+    for (number, search) in [
+        (
+            21,
+            wrong_reader as fn(&Table, usize, &Elements) -> Option<usize>,
+        ),
+        (22, shared),
+    ] {
         let mut used = 0;
         for signal in 0..table.signal_count {
             let (elements, next) = Elements::of(table, signal, used, schedule);
@@ -593,7 +656,8 @@ pub struct Machine {
 
 /// No branch, so that the loops over these become vector code.
 fn all_within(list: &[u16], limit: u16) -> bool {
-    list.iter().fold(true, |ok, &p| ok & ((p <= limit) | (p == NONE)))
+    list.iter()
+        .fold(true, |ok, &p| ok & ((p <= limit) | (p == NONE)))
 }
 
 impl Machine {
@@ -619,7 +683,12 @@ impl Machine {
     /// The bytes after the first field and the room behind it: each may have any value.
     pub fn bytes(&mut self) -> &mut [u8] {
         let at = std::mem::offset_of!(Machine, hyper);
-        let all = unsafe { std::slice::from_raw_parts_mut((self as *mut Machine).cast::<u8>(), std::mem::size_of::<Machine>()) };
+        let all = unsafe {
+            std::slice::from_raw_parts_mut(
+                (self as *mut Machine).cast::<u8>(),
+                std::mem::size_of::<Machine>(),
+            )
+        };
         &mut all[at..]
     }
 
@@ -666,7 +735,9 @@ impl Machine {
 
     fn is_fit(&self) -> bool {
         let firsts_fit = |firsts: &[[u16; MOST_SIGNALS]; MOST_TASKS]| {
-            firsts.iter().zip(self.counts).all(|(row, count)| count <= MOST_USES as u32 && all_within(row, (MOST_USES as u32 - count) as u16))
+            firsts.iter().zip(self.counts).all(|(row, count)| {
+                count <= MOST_USES as u32 && all_within(row, (MOST_USES as u32 - count) as u16)
+            })
         };
         let last = WORDS as u16 - 1;
         self.loaded
@@ -722,7 +793,11 @@ impl Machine {
 
     fn carry(&mut self) {
         for signal in 0..MOST_SIGNALS {
-            let word = self.store.get(self.held[signal] as usize).copied().unwrap_or(0);
+            let word = self
+                .store
+                .get(self.held[signal] as usize)
+                .copied()
+                .unwrap_or(0);
             if let Some(carried) = self.store.get_mut(self.carried[signal] as usize) {
                 *carried = word;
             }
@@ -746,11 +821,19 @@ impl Machine {
     }
 
     /// Where the task has the signal now; nowhere is none.
-    fn place(&self, firsts: &[[u16; MOST_SIGNALS]; MOST_TASKS], task: usize, signal: usize) -> Result<Option<usize>, Refused> {
+    fn place(
+        &self,
+        firsts: &[[u16; MOST_SIGNALS]; MOST_TASKS],
+        task: usize,
+        signal: usize,
+    ) -> Result<Option<usize>, Refused> {
         if !self.is_fit() {
             return Err(Refused(25, 0));
         }
-        let first = *firsts.get(task).and_then(|row| row.get(signal)).ok_or(Refused(23, 0))?;
+        let first = *firsts
+            .get(task)
+            .and_then(|row| row.get(signal))
+            .ok_or(Refused(23, 0))?;
         if first == NONE {
             return Err(Refused(23, 0));
         }
@@ -762,7 +845,9 @@ impl Machine {
     #[inline(never)]
     pub fn read(&self, task: usize, signal: usize) -> Result<u32, Refused> {
         let place = self.place(&self.reads, task, signal)?;
-        Ok(place.and_then(|position| self.store.get(position).copied()).unwrap_or(0))
+        Ok(place
+            .and_then(|position| self.store.get(position).copied())
+            .unwrap_or(0))
     }
 
     #[inline(never)]

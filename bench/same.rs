@@ -1,7 +1,7 @@
 //! The plain code does the same work: its answers, and all that it writes, are those of the proved library, on tables and schedules of many kinds.
 
 use crate::tables::{encode, table, Task, NAMES};
-use crate::{ours, plain};
+use crate::{ours, plain, ROOM};
 
 pub struct Dice(pub u64);
 
@@ -38,7 +38,9 @@ fn random_table(dice: &mut Dice) -> Vec<u8> {
     let hyper = dice.of(&[1, 12, 60, 360, 2520, 9240, 9999]);
     let most = dice.of(&[6, 12, 60]);
     let count = dice.of(&[2, 4, 16]);
-    let tasks: Vec<Task> = (0..dice.below(count + 1)).map(|_| random_task(dice, hyper, most)).collect();
+    let tasks: Vec<Task> = (0..dice.below(count + 1))
+        .map(|_| random_task(dice, hyper, most))
+        .collect();
     let signals = dice.of(&[0, 1, 2, 4, 32]);
     let (rarely_read, rarely_written) = (dice.below(4) + 1, dice.below(8) + 1);
     let mut reads = [[false; 32]; 16];
@@ -60,7 +62,11 @@ fn damage(dice: &mut Dice, bytes: &mut Vec<u8>) {
         _ if bytes.is_empty() => {}
         _ => {
             let at = dice.below(bytes.len());
-            bytes[at] = if dice.one_in(2) { bytes[at].wrapping_add(1) } else { dice.below(256) as u8 };
+            bytes[at] = if dice.one_in(2) {
+                bytes[at].wrapping_add(1)
+            } else {
+                dice.below(256) as u8
+            };
         }
     }
 }
@@ -73,7 +79,7 @@ fn reroute(dice: &mut Dice, schedule: &mut [u8]) {
     while at + 7 <= schedule.len() {
         if schedule[at] == b'B' {
             if dice.one_in(rarely) {
-                schedule[at + 3] = schedule[at + 3].wrapping_add(1);
+                schedule[at + 3] = dice.of(&[32, schedule[at + 3].wrapping_add(1)]);
             }
             // at times one too high
             limit = schedule[at + 3] as usize + dice.below(20) / 19;
@@ -94,12 +100,17 @@ fn told<T>(answer: Result<T, plain::Refused>, done: impl FnOnce(T) -> usize) -> 
     }
 }
 
-fn same_plan(table: &[u8], room: usize) -> Vec<u8> {
+fn same_plan(table: &[u8], room: usize, seen: &mut [u64; 26]) -> Vec<u8> {
     let mut one = vec![0xAA; room];
     let mut other = vec![0xAA; room];
     let answer = ours::plan(table, &mut one);
-    assert_eq!(answer, told(plain::plan(table, &mut other), |n| n), "planning");
+    assert_eq!(
+        answer,
+        told(plain::plan(table, &mut other), |n| n),
+        "planning"
+    );
     assert!(one == other, "the bytes planned");
+    seen[answer.0 as usize] += 1;
     one.truncate(if answer.0 == 0 { answer.1 } else { 0 });
     one
 }
@@ -119,17 +130,24 @@ fn same_call(dice: &mut Dice, one: &mut plain::Machine, other: &mut plain::Machi
         one.bytes()[at] = byte;
         other.bytes()[at] = byte;
     }
-    let (task, signal) = (dice.of(&[0, 0, 1, 2, 3, 15, 16, usize::MAX]), dice.of(&[0, 0, 1, 2, 31, 32, usize::MAX]));
+    let (task, signal) = (
+        dice.of(&[0, 0, 1, 2, 3, 15, 16, usize::MAX]),
+        dice.of(&[0, 0, 1, 2, 31, 32, usize::MAX]),
+    );
     let word = dice.below(1 << 32) as u32;
     let number = match dice.below(4) {
         0 => {
-            let (number, word) = ours::word(one, task, signal);
+            let (number, word) = ours::read(one, task, signal);
             assert_eq!((number, word), word_of(other.read(task, signal)), "a read");
             number
         }
         1 => {
             let number = ours::write(one, task, signal, word);
-            assert_eq!((number, 0), told(other.write(task, signal, word), |_| 0), "a write");
+            assert_eq!(
+                (number, 0),
+                told(other.write(task, signal, word), |_| 0),
+                "a write"
+            );
             number
         }
         _ => {
@@ -159,16 +177,32 @@ pub fn compare(tables: u64) -> [u64; 26] {
         if dice.one_in(5) {
             damage(dice, &mut table);
         }
-        let answer = ours::read(&table);
-        assert_eq!(answer, told(plain::Table::read(&table), |_| 0), "reading, seed {seed}");
+        let answer = ours::table(&table);
+        assert_eq!(
+            answer,
+            told(plain::Table::read(&table), |_| 0),
+            "reading, seed {seed}"
+        );
         seen[answer.0 as usize] += 1;
-        let mut schedule = same_plan(&table, 28_802);
-        same_plan(&table, dice.below(schedule.len() + 3));
+        let mut schedule = same_plan(&table, ROOM, &mut seen);
+        same_plan(&table, dice.below(schedule.len() + 3), &mut seen);
         for _ in 0..4 {
             let answer = ours::check(&table, &schedule);
-            assert_eq!(answer, told(plain::check(&table, &schedule), |_| 0), "checking, seed {seed}");
-            assert_eq!(answer, ours::load(&mut one, &table, &schedule), "loading, seed {seed}");
-            assert_eq!(answer, told(other.load(&table, &schedule), |_| 0), "loading, seed {seed}");
+            assert_eq!(
+                answer,
+                told(plain::check(&table, &schedule), |_| 0),
+                "checking, seed {seed}"
+            );
+            assert_eq!(
+                answer,
+                ours::load(&mut one, &table, &schedule),
+                "loading, seed {seed}"
+            );
+            assert_eq!(
+                answer,
+                told(other.load(&table, &schedule), |_| 0),
+                "loading, seed {seed}"
+            );
             assert!(one == other, "the state after loading, seed {seed}");
             seen[answer.0 as usize] += 1;
             // an unfit machine stays so until it is loaded again

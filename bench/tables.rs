@@ -8,7 +8,12 @@ pub struct Task {
 }
 
 /// The bytes of a table; `reads` and `writes` say which task has which signal.
-pub fn encode(tasks: &[Task], signals: usize, reads: impl Fn(usize, usize) -> bool, writes: impl Fn(usize, usize) -> bool) -> Vec<u8> {
+pub fn encode(
+    tasks: &[Task],
+    signals: usize,
+    reads: impl Fn(usize, usize) -> bool,
+    writes: impl Fn(usize, usize) -> bool,
+) -> Vec<u8> {
     let mut bytes = Vec::new();
     for task in tasks {
         bytes.extend(b"TK");
@@ -35,7 +40,13 @@ pub fn encode(tasks: &[Task], signals: usize, reads: impl Fn(usize, usize) -> bo
 
 /// Fifteen tasks of one period and one of another; no two windows end at one tick of the hyper-period.
 fn sixteen(period: u32, other: Task) -> Vec<Task> {
-    let mut tasks: Vec<Task> = (0..15).map(|task| Task { period, start: task, end: period - task }).collect();
+    let mut tasks: Vec<Task> = (0..15)
+        .map(|task| Task {
+            period,
+            start: task,
+            end: period - task,
+        })
+        .collect();
     tasks.push(other);
     tasks
 }
@@ -43,31 +54,69 @@ fn sixteen(period: u32, other: Task) -> Vec<Task> {
 /// All sixteen tasks use every signal: one of them writes it, the others read it.
 fn one_writer_each(signals: usize) -> Vec<u8> {
     // seven instances of fifteen tasks and 23 of one: 128 for each signal
-    let tasks = sixteen(1380, Task { period: 420, start: 10, end: 401 });
-    encode(&tasks, signals, |task, signal| signal % 16 != task, |task, signal| signal % 16 == task)
+    let tasks = sixteen(
+        1380,
+        Task {
+            period: 420,
+            start: 10,
+            end: 401,
+        },
+    );
+    encode(
+        &tasks,
+        signals,
+        |task, signal| signal % 16 != task,
+        |task, signal| signal % 16 == task,
+    )
 }
 
 /// Eight tasks of eight instances and eight of five, whose periods take Euclid's rule longest; `last` is the end of the last window.
 fn long_divisions(last: u32) -> Vec<Task> {
     let mut tasks: Vec<Task> = (0..16)
-        .map(|task| Task { period: if task < 8 { 1155 } else { 1848 }, start: task, end: 1155 - task })
+        .map(|task| Task {
+            period: if task < 8 { 1155 } else { 1848 },
+            start: task,
+            end: 1155 - task,
+        })
         .collect();
     tasks[15].end = last;
     tasks
 }
 
-pub const NAMES: [&str; 8] = ["writer", "all", "wide", "half", "quarter", "writes", "clash", "burst"];
+pub const NAMES: [&str; 8] = [
+    "writer", "all", "wide", "half", "quarter", "writes", "clash", "burst",
+];
 
 pub fn table(name: &str) -> Vec<u8> {
     match name {
         // one writer of 504 instances, four readers of two: 512 instances, 4,096 uses
         "writer" => {
-            let mut tasks = vec![Task { period: 19, start: 0, end: 7 }];
-            tasks.extend((0..4).map(|reader| Task { period: 4788, start: 900 * reader, end: 900 * reader + 1800 }));
+            let mut tasks = vec![Task {
+                period: 19,
+                start: 0,
+                end: 7,
+            }];
+            tasks.extend((0..4).map(|reader| Task {
+                period: 4788,
+                start: 900 * reader,
+                end: 900 * reader + 1800,
+            }));
             encode(&tasks, 8, |task, _| task > 0, |task, _| task == 0)
         }
         // sixteen tasks that all read and write four signals: 512 instances, 4,096 uses
-        "all" => encode(&sixteen(289, Task { period: 561, start: 10, end: 545 }), 4, |_, _| true, |_, _| true),
+        "all" => encode(
+            &sixteen(
+                289,
+                Task {
+                    period: 561,
+                    start: 10,
+                    end: 545,
+                },
+            ),
+            4,
+            |_, _| true,
+            |_, _| true,
+        ),
         // 32 signals with 512 accesses: 4,096 uses, the longest schedule
         "wide" => one_writer_each(32),
         "half" => one_writer_each(16),
@@ -75,12 +124,33 @@ pub fn table(name: &str) -> Vec<u8> {
         // 512 accesses that all write: the most pairs of writers
         "writes" => encode(&long_divisions(1140), 32, |_, _| false, |_, _| true),
         // the last two tasks publish at one tick, and have one signal in common, the last
-        "clash" => encode(&long_divisions(1141), 32, |task, signal| task == 15 && signal < 31, |task, signal| task < 15 || signal == 31),
+        "clash" => encode(
+            &long_divisions(1141),
+            32,
+            |task, signal| task == 15 && signal < 31,
+            |task, signal| task < 15 || signal == 31,
+        ),
         // all windows close and open at one tick: the longest step; 512 accesses, 3,872 uses
         "burst" => {
-            let mut tasks = vec![Task { period: 1250, start: 0, end: 1250 }; 15];
-            tasks.push(Task { period: 10000, start: 0, end: 10000 });
-            encode(&tasks, 32, |task, signal| signal % 16 != task, |task, signal| signal % 16 == task)
+            let mut tasks = vec![
+                Task {
+                    period: 1250,
+                    start: 0,
+                    end: 1250
+                };
+                15
+            ];
+            tasks.push(Task {
+                period: 10000,
+                start: 0,
+                end: 10000,
+            });
+            encode(
+                &tasks,
+                32,
+                |task, signal| signal % 16 != task,
+                |task, signal| signal % 16 == task,
+            )
         }
         _ => panic!("no such table: {name}"),
     }
@@ -88,11 +158,24 @@ pub fn table(name: &str) -> Vec<u8> {
 
 /// The hyper-period, and the step in which the most windows close and open.
 pub fn busiest(bytes: &[u8]) -> (usize, usize) {
-    let records = bytes.chunks(14).take_while(|record| record.starts_with(b"TK"));
-    let field = |record: &[u8], at: usize| u32::from_be_bytes(record[at..at + 4].try_into().unwrap()) as usize;
-    let tasks: Vec<[usize; 3]> = records.map(|record| [field(record, 2), field(record, 6), field(record, 10)]).collect();
+    let records = bytes
+        .chunks(14)
+        .take_while(|record| record.starts_with(b"TK"));
+    let field = |record: &[u8], at: usize| {
+        u32::from_be_bytes(record[at..at + 4].try_into().unwrap()) as usize
+    };
+    let tasks: Vec<[usize; 3]> = records
+        .map(|record| [field(record, 2), field(record, 6), field(record, 10)])
+        .collect();
     let all_repeat = |tick: &usize| tasks.iter().all(|[period, ..]| tick % period == 0);
     let hyper = (1..).find(all_repeat).unwrap();
-    let events = |tick: &usize| tasks.iter().map(|[period, start, end]| (tick % period == end % period) as usize + (tick % period == *start) as usize).sum::<usize>();
+    let events = |tick: &usize| {
+        tasks
+            .iter()
+            .map(|[period, start, end]| {
+                (tick % period == end % period) as usize + (tick % period == *start) as usize
+            })
+            .sum::<usize>()
+    };
     (hyper, (1..=hyper).max_by_key(events).unwrap())
 }
