@@ -1,0 +1,9 @@
+pub mod Along
+pub mod Held
+pub mod Few
+pub mod Found
+pub mod Front
+pub mod Rows
+pub mod While
+pub mod Lending
+pub mod Says

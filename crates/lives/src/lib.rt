@@ -1,0 +1,37 @@
+// The live list of one signal, filled into a lent list of records.
+mod list;
+mod values;
+
+pub use list::lent;
+pub use list::live_list;
+
+// The most values of one signal: the carried one, and one for each instance.
+pub const MOST_VALUES: usize = rules::MOST_INSTANCES as usize + 1;
+
+// The task number of the carried value.
+pub const CARRIED: u8 = 255;
+
+// A value of the signal: the instance that writes it, the ticks of its life, the last excluded, and its planned element.
+pub struct LiveValue {
+    pub task: u8,
+    pub instance: u16,
+    pub from: u32,
+    pub until: u32,
+    pub element: u8,
+}
+
+// What is answered, and the values to fill in: the first `count` places are in use, none where it is refused.
+pub struct Lives {
+    pub answer: rules::Answer,
+    pub values: [LiveValue; MOST_VALUES],
+    pub count: usize,
+}
+
+// A record that stands for nothing.
+pub const BLANK: LiveValue = LiveValue {
+    task: 0,
+    instance: 0,
+    from: 0,
+    until: 0,
+    element: 0,
+};

@@ -1,0 +1,116 @@
+// The lent list: covered functions decide what is answered and filled in, and a loop stores it. A refusal fills no record.
+use crate::LiveValue;
+use crate::Lives;
+use crate::values::none;
+use crate::values::values_of;
+use answers::number;
+use records::grid::read_grid;
+use rules::Answer;
+use table::read_table;
+ghost use mathlib.Core.Path.{_≡_};
+ghost use Prim.Native.Nat.{_<_, _≤_, min};
+ghost use lib.ListN.{length, replicate};
+ghost use Rattle.rules.specs.Numbers.{told};
+ghost use Rattle.lives.specs.Lives.{liveTold, liveFront, liveOut, mostLent};
+ghost use Rattle.lives.specs.Values.{mostValues, valueAt, filled, Fills};
+
+// The number of an answer that refuses nothing.
+const DONE: u8 = 0;
+
+// The most records that a caller without a list of its own is lent.
+pub const MOST_LENT: usize = 600;
+
+// An answer with the list that it filled.
+pub struct Lived {
+    pub answer: Answer,
+    pub values: [LiveValue; MOST_LENT],
+}
+
+// What is answered where so many records are lent, and what is filled in. No signal needs over 32 elements, so that 12 is never given.
+fn lives_of(table: &[u8], signal: usize, room: usize) -> Lives
+    ensures { λ r. ⌜ Fills (now (table .entry)) signal room r ⌝ }
+{
+    let read = read_table(table);
+    let answer = read.answer;
+    if number(answer) != DONE {
+        return none(answer);
+    }
+    let signals = read.signals;
+    if signals.count <= signal {
+        return none(Answer::NoAccess);
+    }
+    let tasks = read.tasks;
+    let grid = read_grid(table);
+    let lives = values_of(tasks, signals, &grid, signal, read.hyper);
+    if room < lives.count {
+        return none(Answer::TooShort(lives.count));
+    }
+    lives
+}
+
+fn value_at(lives: Lives, k: usize) -> LiveValue
+    requires { ⌜ k < mostValues ⌝ }
+    ensures { λ r. ⌜ r ≡ valueAt lives k ⌝ }
+{
+    lives.values[k]
+}
+
+fn count_of(lives: Lives) -> usize
+    ensures { λ r. ⌜ r ≡ lives .count ⌝ }
+{
+    lives.count
+}
+
+fn answer_of(lives: Lives) -> Answer
+    ensures { λ r. ⌜ r ≡ lives .answer ⌝ }
+{
+    lives.answer
+}
+
+// The first n records are filled, and those beyond stay.
+fn fill(list: &mut [LiveValue], lives: Lives, n: usize)
+    requires { ⌜ (n ≤ length (now list)) × (n ≤ mostValues) ⌝ }
+    ensures { λ _. ⌜ now (list .exit) ≡ filled lives n (now (list .entry)) ⌝ }
+{
+    let mut k = 0;
+    while k < n {
+        list[k] = value_at(lives, k);
+        k = k + 1;
+    }
+}
+
+// The first records of a list are lent.
+fn fill_front(list: &mut [LiveValue], table: &[u8], signal: usize, room: usize) -> Answer
+    requires { ⌜ room ≤ length (now list) ⌝ }
+    ensures { λ r. ⌜ (told r ≡ liveTold (now (table .entry)) signal room) × (now (list .exit) ≡ liveFront (now (table .entry)) signal room (now (list .entry))) ⌝ }
+{
+    let lives = lives_of(table, signal, room);
+    let n = count_of(lives);
+    let answer = answer_of(lives);
+    fill(list, lives, n);
+    answer
+}
+
+// The live list of a signal at the front of the lent list, whose other records stay. A refusal changes nothing.
+pub fn live_list(table: &[u8], signal: usize, list: &mut [LiveValue]) -> Answer
+    ensures { λ r. ⌜ (told r ≡ liveTold (now (table .entry)) signal (length (now (list .entry)))) × (now (list .exit) ≡ liveOut (now (table .entry)) signal (now (list .entry))) ⌝ }
+{
+    let room = list.len();
+    fill_front(list, table, signal, room)
+}
+
+fn at_most(room: usize) -> usize
+    ensures { λ r. ⌜ r ≡ min room mostLent ⌝ }
+{
+    if room <= MOST_LENT { room } else { MOST_LENT }
+}
+
+// The same by value, for a caller without such a list: so many records are lent, at most 600, and each is `before` beforehand.
+pub fn lent(table: &[u8], signal: usize, room: usize, before: LiveValue) -> Lived
+    ensures { λ r. ⌜ (told (r .answer) ≡ liveTold (now (table .entry)) signal (min room mostLent)) × (r .values ≡ liveFront (now (table .entry)) signal (min room mostLent) (replicate mostLent before)) ⌝ }
+{
+    let first = at_most(room);
+    let mut values = [before; MOST_LENT];
+    let answer = fill_front(&mut values, table, signal, first);
+    Lived { answer, values }
+}
