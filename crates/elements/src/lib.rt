@@ -4,6 +4,7 @@ mod steps;
 
 pub use pass::Numbers;
 pub use pass::plan_signal;
+pub use steps::first_free;
 
 // The last element that a signal may have.
 pub const LAST: usize = rules::MOST_ELEMENTS - 1;

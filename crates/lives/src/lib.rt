@@ -8,8 +8,8 @@ pub use list::live_list;
 // The most values of one signal: the carried one, and one for each instance.
 pub const MOST_VALUES: usize = rules::MOST_INSTANCES as usize + 1;
 
-// The task number of the carried value.
-pub const CARRIED: u8 = 255;
+// The task number of the carried value, as wide as the record's.
+pub const CARRIED: u8 = rules::CARRIED as u8;
 
 // A value of the signal: the instance that writes it, the ticks of its life, the last excluded, and its planned element.
 pub struct LiveValue {

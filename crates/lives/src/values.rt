@@ -4,11 +4,11 @@ use crate::CARRIED;
 use crate::LiveValue;
 use crate::Lives;
 use crate::MOST_VALUES;
-use elements::LAST;
-use elements::MOST_ELEMENTS;
+use elements::first_free;
 use events::KIND;
 use events::order_events;
 use rules::Answer;
+use rules::MOST_ELEMENTS;
 use rules::MOST_SIGNALS;
 use rules::MOST_TASKS;
 use rules::Signals;
@@ -24,20 +24,6 @@ ghost use Rattle.rules.specs.Reading.{tableOf, writesIn};
 ghost use Rattle.elements.specs.Steps.{mostElements, freeIn};
 ghost use Rattle.lives.specs.Lives.{liveValues};
 ghost use Rattle.lives.specs.Values.{mostValues, shown, blank, padded, writesAt, lifeBy, Opening, Asked};
-
-// The lowest element that holds no value past the tick. One always is free, so that the last is not asked.
-fn lowest_free(held: &[u32; MOST_ELEMENTS], tick: u32) -> usize
-    ensures { λ r. ⌜ (r ≡ freeIn (now (held .entry)) tick) × (r < mostElements) ⌝ }
-{
-    let mut e: usize = 0;
-    while e < LAST {
-        if held[e] <= tick {
-            return e;
-        }
-        e += 1;
-    }
-    e
-}
 
 // Whether the event opens a window of a task that writes the signal.
 fn is_written(grid: &[[u8; MOST_SIGNALS]; MOST_TASKS], signal: usize, event: u32) -> bool
@@ -68,7 +54,7 @@ fn written(
     let task = tasks.list[k];
     let i = from / task.period;
     let last = until(tasks, grid, signal, hyper, i * task.period + task.end);
-    let e = lowest_free(held, from);
+    let e = first_free(held, from);
     held[e] = last;
     LiveValue {
         task: k as u8,

@@ -16,7 +16,7 @@ cast-t25 c =
 returns : tie.Need-returns
 returns c =
     let a = c .before .before .before .before .before .before .before .args in
-    written-is (a .t1) (a .grid .now) (a .signal) (a .hyper) (a .event) (a .held .now) (c .before .before .until .ensures) (c .lowest-free .ensures .0)
+    written-is (a .t1) (a .grid .now) (a .signal) (a .hyper) (a .event) (a .held .now) (c .before .before .until .ensures) (c .first-free .ensures .0)
 
 pub written-spec : {M : Type 1} → statement M
 written-spec =
