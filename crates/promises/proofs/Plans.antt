@@ -1,6 +1,6 @@
 -- Planning is right: specs/Plans.antt, proved.
 use Prim.Native.Nat.{ℕ, _≤_}
-use mathlib.Core.Path.{_≡_, sym, ap, _∙_}
+use mathlib.Core.Path.{_≡_, sym, ap, subst, _∙_}
 use mathlib.Core.List.{List, _++_}
 use mathlib.Core.Logic.{inl, inr, ⊎-elim}
 use native.Mathlib.Omega.{arith}
@@ -16,12 +16,13 @@ use Rattle.rules.specs.Numbers.{Told, tell, told, allDone}
 use Rattle.rules.specs.Answers.{planSays}
 use Rattle.rules.specs.Reading.{tableIn, readSays}
 use Rattle.rules.specs.declared.Answer.{Answer}
+use Rattle.theory.specs.First.{FirstBrokenElse, BrokenPlan, planRuleTold, planRules}
 use Rattle.theory.proofs.Tests.{split}
 use Rattle.theory.proofs.Checked.{when-false}
 use Rattle.theory.proofs.Laid.{bytes-length}
 use Rattle.theory.proofs.Answered.{plan-says}
 use Rattle.theory.proofs.Planned.{no-fewer, no-fewer-in-all}
-use Rattle.theory.proofs.Proved.{plan-answered, whatever-is-read-keeps, bytes-checked-exactly}
+use Rattle.theory.proofs.Proved.{plan-answered, plan-says-first, whatever-is-read-keeps, bytes-checked-exactly}
 use Rattle.fields.proofs.Told.{told-exact}
 use Rattle.fields.proofs.Whens.{on, off}
 use Rattle.plan.specs.Planning.{planTold, plannedInto, planOut}
@@ -99,6 +100,8 @@ module _ (table out : List ℕ) (r : Answer) (after : List ℕ) (g : PlanGives t
       (λ z. let d = done-gives (tableIn table) (fits e) (length out) (done-says z) in ((plans.plan (tableIn table), d .0), d .1)),
       λ p. ap (λ (t : Told). t .number) (says e ∙ done-where (tableIn table) (fits e) (length out) (p .0 .0) (p .0 .1) (p .1)),
     );
+    first-broken = λ e. subst (FirstBrokenElse (BrokenPlan (tableIn table) (length out)) (planRuleTold (tableIn table)) (tell allDone (scheduleLength (tableIn table))) (planRules (tableIn table)))
+        (sym (says e)) (plan-says-first (tableIn table) (length out));
     written = λ z.
         let e = read-accepted z in
         let d = done-gives (tableIn table) (fits e) (length out) (done-says z) in (

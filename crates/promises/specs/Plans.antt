@@ -12,6 +12,7 @@ use Rattle.rules.specs.Numbers.{tell, told, allDone, manyElements, manyInAll}
 use Rattle.rules.specs.Answers.{checkSays}
 use Rattle.rules.specs.Reading.{tableIn, readSays}
 use Rattle.rules.specs.declared.Answer.{Answer}
+use Rattle.theory.specs.First.{FirstBrokenElse, BrokenPlan, planRuleTold, planRules}
 use Rattle.plan.specs.Planning.{planTold, planOut}
 
 -- r is what `plan` answers for these table bytes and this lent buffer, and `after` what it leaves in the buffer: its contract
@@ -23,6 +24,9 @@ pub record PlansRightly (table out : List ℕ) (r : Answer) (after : List ℕ) :
   pub table-refused : (readSays table .number ≡ allDone → ⊥) → told r ≡ readSays table
   -- Of an accepted table: planning is done exactly where some schedule passes, given room in the buffer.
   pub done : readSays table .number ≡ allDone → (told r .number ≡ allDone) ↔ (((E : Schedule) × Passes (tableIn table) E) × (scheduleLength (tableIn table) ≤ length out))
+  -- Of an accepted table: the first rule of 12 to 14 that is broken gives number and place; where none is, the bytes written are told.
+  pub first-broken : readSays table .number ≡ allDone
+      → FirstBrokenElse (BrokenPlan (tableIn table) (length out)) (planRuleTold (tableIn table)) (tell allDone (scheduleLength (tableIn table))) (planRules (tableIn table)) (told r)
   -- What it writes at the front passes the check, the answer tells its bytes, and the bytes after it stay.
   pub written : told r .number ≡ allDone
       → (after ≡ bytesOf (tableIn table) (plans.plan (tableIn table)) ++ drop (scheduleLength (tableIn table)) out)
