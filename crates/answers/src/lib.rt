@@ -3,11 +3,14 @@ use rules::Answer;
 ghost use mathlib.Core.Path.{_≡_};
 ghost use Rattle.rules.specs.Numbers.{told};
 
+// The number of an answer that refuses nothing.
+pub const DONE: u8 = 0;
+
 pub fn number(a: Answer) -> u8
     ensures { λ r. ⌜ r ≡ told a .number ⌝ }
 {
     match a {
-        Answer::Done(_) => 0,
+        Answer::Done(_) => DONE,
         Answer::TableCut(_) => 1,
         Answer::BadMark(_) => 2,
         Answer::TooMany(_) => 3,

@@ -41,7 +41,7 @@ pub extern "C" fn press_check(table: &[u8], schedule: &[u8], place: &mut usize) 
     ensures number { λ r. ⌜ r ≡ loadSays (now (table .entry)) (now (schedule .entry)) .number ⌝ }
     ensures place { λ _. ⌜ now (place .exit) ≡ loadSays (now (table .entry)) (now (schedule .entry)) .place ⌝ }
 {
-    let answer = judge::check_schedule(table, schedule);
+    let answer = inspect::check_schedule(table, schedule);
     *place = answers::place(answer);
     answers::number(answer)
 }

@@ -28,9 +28,9 @@ use Rattle.form.specs.declared.sides.Side.{Side}
 use Rattle.form.specs.Records.{Ready, permits, useOf}
 use Rattle.form.proofs.Steps.{all-times}
 use Rattle.form.proofs.Parted.{ready}
-use Rattle.inspect.specs.Pass.{gridTable, elementAt, longestBytes, ArePlaces}
-use Rattle.inspect.specs.declared.Places.{Places}
-use Rattle.inspect.proofs.Inspected.{total-within, writer-step, reader-step, writer-inside, reader-inside}
+use Rattle.sweep.specs.Pass.{gridTable, elementAt, longestBytes, ArePlaces}
+use Rattle.sweep.specs.declared.Places.{Places}
+use Rattle.sweep.proofs.Inspected.{total-within, writer-step, reader-step, writer-inside, reader-inside}
 use Rattle.faults.specs.declared.View.{View}
 use Rattle.faults.specs.declared.lives.Held.{Held}
 use Rattle.faults.specs.Faults.{viewTable, viewSchedule, readTable, Accepted, Seen, Has, firstOf, recordsIn, clashing}

@@ -17,8 +17,8 @@ use Rattle.rules.specs.Reading.{Grid, tableOf}
 use Rattle.table.specs.declared.reading.TableRead.{TableRead}
 use Rattle.form.specs.declared.sides.Side.{Side}
 use Rattle.form.specs.Records.{permits, instanceParts}
-use Rattle.inspect.specs.Pass.{ArePlaces}
-use Rattle.inspect.specs.declared.Places.{Places}
+use Rattle.sweep.specs.Pass.{ArePlaces}
+use Rattle.sweep.specs.declared.Places.{Places}
 use Rattle.faults.specs.declared.Fault.{Fault}
 use Rattle.faults.specs.declared.View.{View}
 use Rattle.faults.specs.declared.lives.Held.{Held}

@@ -17,5 +17,5 @@ pub struct View {
     pub signals: rules::Signals,
     pub hyper: u32,
     pub signal: usize,
-    pub places: inspect::Places,
+    pub places: sweep::Places,
 }

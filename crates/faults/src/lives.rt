@@ -2,11 +2,11 @@
 use crate::View;
 use crate::search::records_of;
 use form::Side;
-use inspect::element_at;
 use rules::CARRIED_ELEMENT;
 use rules::MOST_SIGNALS;
 use rules::MOST_TASKS;
 use signals::until;
+use sweep::element_at;
 ghost use mathlib.Core.Path.{_≡_};
 ghost use Prim.Native.Nat.{_≤_, _<_};
 ghost use Rattle.rules.specs.Values.{carried, by};

@@ -1,11 +1,11 @@
 // 21: a reader that was sent to another element than that of the value it is bound to.
 use crate::View;
-use inspect::element_at;
 use rules::CARRIED;
 use rules::CARRIED_ELEMENT;
 use rules::MOST_SIGNALS;
 use rules::MOST_TASKS;
 use signals::binding_at;
+use sweep::element_at;
 ghost use mathlib.Core.Path.{_≡_};
 ghost use Prim.Native.Nat.{_≤_};
 ghost use Rattle.rules.specs.Windows as windows;

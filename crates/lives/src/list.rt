@@ -3,6 +3,7 @@ use crate::LiveValue;
 use crate::Lives;
 use crate::values::none;
 use crate::values::values_of;
+use answers::DONE;
 use answers::number;
 use records::grid::read_grid;
 use rules::Answer;
@@ -13,9 +14,6 @@ ghost use lib.ListN.{length, replicate};
 ghost use Rattle.rules.specs.Numbers.{told};
 ghost use Rattle.lives.specs.Lives.{liveTold, liveFront, liveOut, mostLent};
 ghost use Rattle.lives.specs.Values.{mostValues, valueAt, filled, Fills};
-
-// The number of an answer that refuses nothing.
-const DONE: u8 = 0;
 
 // The most records that a caller without a list of its own is lent.
 pub const MOST_LENT: usize = 600;

@@ -14,7 +14,7 @@ use Rattle.table.specs.declared.reading.TableRead.{TableRead}
 use Rattle.table.specs.Said.{tableSaid}
 use Rattle.table.proofs.Exact.{answer-says, hyper-read}
 use Rattle.faults.specs.Faults.{readTable}
-use Rattle.judge.proofs.Loaded.{load-refused, load-accepted, load-checked}
+use Rattle.verdict.proofs.Loaded.{load-refused, load-accepted, load-checked}
 use Rattle.machine.specs.declared.Machine.{Machine}
 use Rattle.machine.specs.declared.Stepped.{Stepped}
 use Rattle.machine.specs.Calls.{answered}

@@ -1,6 +1,6 @@
 // The machine that runs a table with a schedule tick by tick. After loading it needs neither of them again.
+use answers::DONE;
 use answers::number;
-use judge::check_with;
 use records::grid::read_grid;
 use rows::CELLS;
 use rows::NONE;
@@ -13,6 +13,7 @@ use rules::Signals;
 use rules::Tasks;
 use rules::WORDS;
 use table::read_table;
+use verdict::check_with;
 ghost use mathlib.Core.Path.{_≡_};
 ghost use Rattle.machine.specs.Calls.{unloaded, stepOf, readOf, writeOf};
 ghost use Rattle.machine.specs.Started.{given, started, Checked};
@@ -80,7 +81,7 @@ impl Machine {
     {
         let read = read_table(table);
         let refusal = read.answer;
-        if number(refusal) != 0 {
+        if number(refusal) != DONE {
             return Stepped {
                 answer: refusal,
                 machine: self,
@@ -88,7 +89,7 @@ impl Machine {
         }
         let grid = read_grid(table);
         let answer = check_with(read, &grid, schedule);
-        if number(answer) != 0 {
+        if number(answer) != DONE {
             return Stepped {
                 answer: answer,
                 machine: self,

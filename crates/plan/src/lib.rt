@@ -3,4 +3,3 @@ mod planning;
 mod uses;
 
 pub use planning::plan;
-pub use uses::plan_uses;

@@ -1,4 +1,4 @@
--- Demand 2, about `judge::check_schedule`: with an accepted table a schedule passes exactly when document 01's words hold of it, else the first rule
+-- Demand 2, about `sweep::check_schedule`: with an accepted table a schedule passes exactly when document 01's words hold of it, else the first rule
 -- that is broken is told; and what `plan::plan` writes passes. proofs/Schedules.antt proves it. Assumes nothing.
 use Prim.Native.Nat.{ℕ}
 use mathlib.Core.Path.{_≡_}

@@ -4,7 +4,7 @@ use crate::tell::tell;
 use console::digits::decode;
 use console::page::front;
 use console::words::after_word;
-use judge::check_schedule;
+use inspect::check_schedule;
 
 pub fn check_kept(
     line: &[u8],

@@ -6,7 +6,6 @@ mod verdict;
 
 pub use reading::TableRead;
 pub use reading::read_table;
-pub use verdict::judge;
 
 // The answer, and the hyper-period of a table that is accepted, else 0.
 pub struct Judged {

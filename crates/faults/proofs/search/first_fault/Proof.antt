@@ -8,7 +8,7 @@ use Rattle.rules.specs.Words.{total, gather}
 use Rattle.rules.specs.Bytes.{sizeOf, scheduleIn}
 use Rattle.form.specs.Form.{walked}
 use Rattle.form.proofs.Walks.{walked-none, walked-turn, walked-stopped}
-use Rattle.inspect.specs.Pass.{gridTable}
+use Rattle.sweep.specs.Pass.{gridTable}
 use Rattle.faults.specs.declared.Fault.{Fault}
 use Rattle.faults.specs.Faults.{readTable, sideOf, wrongOf, seek}
 use Rattle.faults.proofs.Viewed.{places-asked, seen}

@@ -1,7 +1,7 @@
 -- Loading: the table refused, the schedule refused, or both accepted.
 use mathlib.Core.Path.{sym, _∙_}
 use borrow.Author.Needs.{needs}
-use Rattle.judge.proofs.Loaded.{load-accepted, load-checked}
+use Rattle.verdict.proofs.Loaded.{load-accepted, load-checked}
 use Rattle.machine.proofs.Load.{table-refused, refused-loads, both-checked, accepted-loads}
 use Rattle.machine.proofs.Machine.load.Statement.{statement}
 use Rattle.machine.proofs.Machine.load.Tie as tie
