@@ -83,6 +83,19 @@ static void planned_and_checked(void)
     schedule[24] = 1;
 }
 
+static void live_list(void)
+{
+    static struct press_live_value list[3];
+    memset(list, 0xEE, sizeof list);
+    told("live list in 1 record", press_live(table, TABLE_LENGTH, 0, list, 1, &place));
+    printf("record 0 is of task %u\n", list[0].task);
+    told("live list of signal 1", press_live(table, TABLE_LENGTH, 1, list, 3, &place));
+    told("live list", press_live(table, TABLE_LENGTH, 0, list, 3, &place));
+    for (size_t i = 0; i < 3; i++) {
+        printf("task %u instance %u from %u until %u element %u\n", list[i].task, list[i].instance, list[i].from, list[i].until, list[i].element);
+    }
+}
+
 static void unloaded(void)
 {
     press_new(&machine);
@@ -135,6 +148,7 @@ static void unfit(void)
 int main(void)
 {
     planned_and_checked();
+    live_list();
     unloaded();
     case_b();
     unfit();

@@ -24,6 +24,7 @@ mod table;
 #[path = "../second/src/vary.rs"]
 mod vary;
 
+use plan::LiveRecord;
 use rng::Rng;
 use schedule::{schedule_bytes, SignalSchedule};
 use table::{read_table, Access, Refusal, Table};
@@ -43,10 +44,22 @@ struct State {
     store: [u32; 256],
 }
 
+/// `struct press_live_value`.
+#[repr(C)]
+#[derive(Clone)]
+struct Value {
+    task: u8,
+    instance: u16,
+    from: u32,
+    until: u32,
+    element: u8,
+}
+
 extern "C" {
     fn press_table(table: *const u8, length: usize, place: *mut usize) -> u8;
     fn press_plan(table: *const u8, length: usize, out: *mut u8, room: usize, place: *mut usize) -> u8;
     fn press_check(table: *const u8, length: usize, schedule: *const u8, bytes: usize, place: *mut usize) -> u8;
+    fn press_live(table: *const u8, length: usize, signal: usize, list: *mut Value, room: usize, place: *mut usize) -> u8;
     fn press_new(machine: *mut State);
     fn press_load(machine: *mut State, table: *const u8, length: usize, schedule: *const u8, bytes: usize, place: *mut usize) -> u8;
     fn press_step(machine: *mut State) -> u8;
@@ -113,6 +126,23 @@ impl Both {
         let number = unsafe { press_check(bytes.as_ptr(), bytes.len(), schedule.as_ptr(), schedule.len(), &mut place) };
         let second = read_table(bytes).and_then(|table| check::check(&table, schedule));
         self.same("check", (number, place), second.map(|_| 0));
+    }
+
+    /// The live list of a signal in a list of some length; records beyond it and refused lists stay.
+    fn lives(&mut self, bytes: &[u8]) {
+        let table = read_table(bytes);
+        let signals = table.as_ref().map_or(0, |table| table.defaults.len());
+        let signal = if signals == 0 || self.rng.one_in(10) { self.rng.pick(&FAR) } else { self.rng.below(signals) as u64 };
+        let writers = |table: &Table| if signal < signals as u64 { table.users(signal as usize, Access::Write).len() } else { 0 };
+        let needed = 1 + table.as_ref().map_or(0, writers);
+        let room = self.rng.pick(&[needed, needed, needed - 1, needed + 3, 0]);
+        let mut list = vec![Value { task: 170, instance: 43_690, from: 1, until: 2, element: 170 }; room];
+        let mut expected: Vec<LiveRecord> = list.iter().map(record).collect();
+        let mut place = UNTOLD;
+        let number = unsafe { press_live(bytes.as_ptr(), bytes.len(), signal as usize, list.as_mut_ptr(), room, &mut place) };
+        let second = table.and_then(|table| plan::live_list(&table, signal, &mut expected));
+        self.same("live", (number, place), second);
+        assert_eq!(list.iter().map(record).collect::<Vec<_>>(), expected, "call {}: the live list", self.calls);
     }
 
     fn load(&mut self, bytes: &[u8], schedule: &[u8]) -> bool {
@@ -186,11 +216,13 @@ impl Both {
         let Ok((table, plan)) = read_table(&bytes).and_then(|table| plan::plan_schedule(&table).map(|plan| (table, plan))) else {
             // The table or its plan is refused, and the machine runs on.
             self.plans(&bytes, 40);
+            self.lives(&bytes);
             self.checks(&bytes, b"EN");
             self.load(&bytes, b"EN");
             return (0..4).for_each(|_| self.access(&Table::default()));
         };
         self.plans(&bytes, schedule_bytes(&plan).len());
+        (0..3).for_each(|_| self.lives(&bytes));
         for _ in 0..4 {
             let schedule = vary::variant(&mut self.rng, &table, &plan);
             self.checks(&bytes, &schedule);
@@ -219,6 +251,10 @@ impl Both {
             _ => schedule_bytes(&vary::passing(&mut self.rng, table).unwrap_or(plan.to_vec())),
         }
     }
+}
+
+fn record(value: &Value) -> LiveRecord {
+    LiveRecord { task: value.task, instance: value.instance, from: value.from, until: value.until, element: value.element }
 }
 
 fn zeroed() -> State {

@@ -59,9 +59,10 @@ enum press_bound {
     PRESS_MOST_TASKS = 16,
     PRESS_MOST_SIGNALS = 32,
     PRESS_MOST_USES = 4096,
-    PRESS_WORDS = 256,                /* the element store */
-    PRESS_LONGEST_TABLE = 2466,       /* bytes */
-    PRESS_LONGEST_SCHEDULE = 28802    /* bytes */
+    PRESS_WORDS = 256,             /* the element store */
+    PRESS_LONGEST_TABLE = 2466,    /* bytes */
+    PRESS_LONGEST_SCHEDULE = 28802, /* bytes */
+    PRESS_MOST_VALUES = 513        /* records of a live list: the carried value, and one for each instance */
 };
 
 /* Reading a table: 0, or 1 to 11. */
@@ -72,6 +73,18 @@ uint8_t press_plan(const uint8_t *table, size_t table_length, uint8_t *out, size
 
 /* Checking a schedule made elsewhere: 0, 1 to 11 for the table, or 15 to 22. */
 uint8_t press_check(const uint8_t *table, size_t table_length, const uint8_t *schedule, size_t schedule_length, size_t *place);
+
+/* A record of a live list: who publishes the value, from when until when (excluded) it is live, and its planned element. */
+struct press_live_value {
+    uint8_t task; /* 255 for the carried value */
+    uint16_t instance;
+    uint32_t from;
+    uint32_t until;
+    uint8_t element;
+};
+
+/* The live list of a signal at the front of the lent list: 0 with the records filled, or 1 to 11, 23, 12, 14. Records beyond stay. */
+uint8_t press_live(const uint8_t *table, size_t table_length, size_t signal, struct press_live_value *list, size_t list_length, size_t *place);
 
 /*
  * The machine's state, as the library lays it out. It may be read; whatever else than the functions below writes it,
@@ -98,10 +111,12 @@ struct press_machine {
     uint32_t store[PRESS_WORDS];
 };
 
-/* The size that the library's proofs count with. */
+/* The sizes that the library's proofs count with. */
 #ifdef __cplusplus
+static_assert(sizeof(struct press_live_value) == 16, "a live list's record is laid out otherwise than the library has it");
 static_assert(sizeof(struct press_machine) == 11788, "the machine's state is laid out otherwise than the library has it");
 #else
+_Static_assert(sizeof(struct press_live_value) == 16, "a live list's record is laid out otherwise than the library has it");
 _Static_assert(sizeof(struct press_machine) == 11788, "the machine's state is laid out otherwise than the library has it");
 #endif
 

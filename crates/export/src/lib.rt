@@ -1,15 +1,18 @@
 // The library for firmware: document 01's functions under C names. Each gives back the number of its answer, and its place through the last parameter.
+use lives::LiveValue;
 use machine::Machine;
 use machine::Stepped;
+use rules::Answer;
 ghost use mathlib.Core.Path.{_≡_};
 ghost use lib.ListN.{length};
 ghost use Rattle.rules.specs.Numbers.{told};
 ghost use Rattle.rules.specs.Reading.{readSays};
 ghost use Rattle.rules.specs.Loading.{loadSays};
 ghost use Rattle.plan.specs.Planning.{planTold, planOut};
+ghost use Rattle.lives.specs.Lives.{liveTold, liveOut};
 ghost use Rattle.machine.specs.Calls.{unloaded, stepOf, readOf, writeOf};
 ghost use Rattle.machine.specs.Load.{loadLeaves};
-ghost use Rattle.export.specs.After.{leaves, afterOf, wordOf};
+ghost use Rattle.export.specs.After.{numbered, leaves, afterOf, wordOf};
 
 // Reading a table: 0, or 1 to 11.
 #[no_mangle]
@@ -46,6 +49,39 @@ pub extern "C" fn press_check(table: &[u8], schedule: &[u8], place: &mut usize) 
     answers::number(answer)
 }
 
+// The number and the place of an answer.
+pub struct Numbered {
+    pub number: u8,
+    pub place: usize,
+}
+
+fn numbers_of(answer: Answer) -> Numbered
+    ensures { λ r. ⌜ r ≡ numbered (told answer) ⌝ }
+{
+    Numbered {
+        number: answers::number(answer),
+        place: answers::place(answer),
+    }
+}
+
+// The live list of a signal at the front of the lent list: 0 with the records filled, 1 to 12, 14 or 23.
+#[no_mangle]
+pub extern "C" fn press_live(
+    table: &[u8],
+    signal: usize,
+    list: &mut [LiveValue],
+    place: &mut usize,
+) -> u8
+    ensures { λ r. ⌜ (r ≡ liveTold (now (table .entry)) signal (length (now (list .entry))) .number)
+        × (now (place .exit) ≡ liveTold (now (table .entry)) signal (length (now (list .entry))) .place)
+        × (now (list .exit) ≡ liveOut (now (table .entry)) signal (now (list .entry))) ⌝ }
+{
+    let answer = lives::live_list(table, signal, list);
+    let told = numbers_of(answer);
+    *place = told.place;
+    told.number
+}
+
 // What a call leaves: number and place of its answer, and the machine after it.
 pub struct After {
     pub number: u8,
@@ -64,9 +100,10 @@ fn after_call(next: Stepped) -> After
 {
     let answer = next.answer;
     let machine = next.machine;
+    let told = numbers_of(answer);
     After {
-        number: answers::number(answer),
-        place: answers::place(answer),
+        number: told.number,
+        place: told.place,
         machine: machine,
     }
 }

@@ -12,6 +12,7 @@ pub const MOST_VALUES: usize = rules::MOST_INSTANCES as usize + 1;
 pub const CARRIED: u8 = rules::CARRIED as u8;
 
 // A value of the signal: the instance that writes it, the ticks of its life, the last excluded, and its planned element.
+#[repr(C)]
 pub struct LiveValue {
     pub task: u8,
     pub instance: u16,
