@@ -2,6 +2,8 @@
 mod list;
 mod values;
 
+pub use list::Lived;
+pub use list::MOST_LENT;
 pub use list::lent;
 pub use list::live_list;
 

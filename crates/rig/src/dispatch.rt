@@ -3,6 +3,7 @@ use crate::bench::Bench;
 use crate::bench::LONGEST;
 use crate::checking::check_kept;
 use crate::keeping::keep;
+use crate::living::live_kept;
 use crate::planning::list_kept;
 use crate::planning::plan_kept;
 use crate::running::load_kept;
@@ -32,6 +33,7 @@ pub fn answer(
         Command::Table => keep(line, kept, out, bench),
         Command::Plan(len) => plan_kept(len as usize, kept, lent, out, bench),
         Command::Listing => list_kept(kept, lent, out, bench),
+        Command::Live(signal, len) => live_kept(signal as usize, len as usize, kept, out, bench),
         Command::Check => check_kept(line, kept, lent, out, bench),
         Command::Load => load_kept(line, kept, lent, out, bench),
         Command::Steps(k) => step_machine(k, out, bench),
@@ -39,6 +41,6 @@ pub fn answer(
         Command::Write(task, signal, word) => {
             write_machine(task as usize, signal as usize, word, out, bench)
         }
-        _ => bad_line(out, bench),
+        Command::Bad => bad_line(out, bench),
     }
 }

@@ -4,6 +4,7 @@ mod checking;
 mod dispatch;
 mod input;
 mod keeping;
+mod living;
 mod planning;
 mod running;
 mod tell;

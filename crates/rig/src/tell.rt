@@ -37,12 +37,17 @@ pub fn tell(out: &mut [u8], answer: Answer, bench: Bench) -> Bench {
     after
 }
 
+// One number more, after what separates it from the one before.
+pub fn put_part(out: &mut [u8], at: usize, mark: u8, n: u64) -> usize {
+    let marked = put(out, at, mark);
+    put_decimal(out, marked, n)
+}
+
 // Number, place and one number more.
 pub fn tell_with(out: &mut [u8], answer: Answer, more: u64, bench: Bench) -> Bench {
     let mut after = bench;
     let told = put_answer(out, bench.waiting, answer);
-    let spaced = put(out, told, SPACE);
-    let shown = put_decimal(out, spaced, more);
+    let shown = put_part(out, told, SPACE, more);
     after.waiting = end_of_answer(out, shown);
     after
 }
