@@ -1,4 +1,6 @@
 pub mod Tables
 pub mod Plans
+pub mod Lists
 pub mod Schedules
 pub mod Runs
+pub mod Demands

@@ -1,0 +1,28 @@
+-- The demands are met: specs/Demands.antt, proved.
+use Rattle.machine.proofs.Fit.{stays-fit, unfit-exact, refused-leaves}
+use Rattle.promises.specs.Demands.{Demand1, Demand2, Demand3, Demands}
+use Rattle.promises.proofs.Tables.{tables-exactly}
+use Rattle.promises.proofs.Plans.{all-plans-rightly}
+use Rattle.promises.proofs.Lists.{all-lists-rightly}
+use Rattle.promises.proofs.Schedules.{schedules-exactly, plans-pass}
+use Rattle.promises.proofs.Runs.{loads-exactly, runs-as-promised}
+
+pub demands-met : Demands
+demands-met = record {
+  first = record {
+    plan = λ table out r after g. all-plans-rightly table out r after g .unchanged;
+    list = λ table signal list r after g. all-lists-rightly table signal list r after g .unchanged;
+    load = λ m table schedule r g. loads-exactly m table schedule r g .refused;
+    calls = refused-leaves;
+    unfit = unfit-exact;
+    stays-fit = stays-fit;
+  };
+  second = record {
+    tables = tables-exactly;
+    schedules = schedules-exactly;
+    plans = all-plans-rightly;
+    plans-pass = plans-pass;
+    lists = all-lists-rightly;
+  };
+  third = record { loads = loads-exactly; runs = runs-as-promised };
+}

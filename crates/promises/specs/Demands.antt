@@ -1,0 +1,61 @@
+-- The user's demands in his order, about the functions he calls: `table::read_table`, `plan::plan`, `lives::live_list`, `inspect::check_schedule`, and
+-- `machine::Machine` with new, load, step, read and write. Each function is named by its contract (Gives, PlanGives, ListGives, CheckGives, Loads, stepOf,
+-- readOf, writeOf); each clause says what follows for whatever the function gave. proofs/Demands.antt proves them all. Assumes nothing.
+use Prim.Native.Nat.{ℕ}
+use mathlib.Core.Path.{_≡_}
+use mathlib.Core.Bool.{true}
+use mathlib.Core.List.{List}
+use Rattle.rules.specs.Numbers.{told, allDone}
+use Rattle.rules.specs.declared.Answer.{Answer}
+use Rattle.lives.specs.declared.LiveValue.{LiveValue}
+use Rattle.machine.specs.declared.Machine.{Machine}
+use Rattle.machine.specs.declared.Stepped.{Stepped}
+use Rattle.machine.specs.Load.{Loads}
+use Rattle.machine.specs.Fit.{UnfitExact, StaysFit, RefusedLeaves}
+use Rattle.machine.specs.Calls.{fit}
+use Rattle.promises.specs.Tables.{TablesExactly}
+use Rattle.promises.specs.Plans.{PlanGives, AllPlansRightly}
+use Rattle.promises.specs.Lists.{ListGives, AllListsRightly}
+use Rattle.promises.specs.Schedules.{SchedulesExactly, PlansPass}
+use Rattle.promises.specs.Runs.{RunsAsPromised, LoadsExactly}
+
+-- the answer is a refusal
+abbrev pub Refused : Answer → Type 0
+Refused r = told r .number ≡ allDone → ⊥
+
+-- 1. Every call ends with an answer, however bad what it is given: no function above has a `requires`, and the checker proves that each ends. A refusal
+-- says which rule broke and where (`record-refused`, `whole-refused` and `first-broken` in Tables, Plans, Lists and Schedules), and changes nothing lent:
+pub record Demand1 : Type 0 where
+  -- not the buffer to plan into,
+  pub plan : (table out : List ℕ) (r : Answer) (after : List ℕ) → PlanGives table out r after → Refused r → after ≡ out
+  -- not the list of records,
+  pub list : (table : List ℕ) (signal : ℕ) (list : List LiveValue) (r : Answer) (after : List LiveValue) → ListGives table signal list r after → Refused r → after ≡ list
+  -- not the machine that was running before a loading,
+  pub load : (m : Machine) (table schedule : List ℕ) (r : Stepped) → Loads m table schedule r → Refused (r .answer) → r .machine ≡ m
+  -- and not the machine that is stepped, read or written; a refused read has word 0.
+  pub calls : (m : Machine) → RefusedLeaves m
+  -- 25 is given exactly on states that are not fit, and no call leads from a fit state to one that is not.
+  pub unfit : (m : Machine) → UnfitExact m
+  pub stays-fit : (m : Machine) → fit m ≡ true → StaysFit m
+
+-- 2. A table is accepted exactly when the rules hold; a schedule exactly when it has the form and bounds, each reader is sent to the value LET gives it
+-- and no two values needed at one tick share an element. The plan is the one fixed plan: it passes the check, no passing schedule gives any signal fewer
+-- elements, and too many elements is refused only where no schedule passes.
+pub record Demand2 : Type 0 where
+  pub tables : TablesExactly
+  pub schedules : SchedulesExactly
+  pub plans : AllPlansRightly
+  pub plans-pass : PlansPass
+  pub lists : AllListsRightly
+
+-- 3. Loaded with any table and any schedule that passes, then asked anything, refused calls among them, over any number of hyper-periods: no permitted
+-- read or write inside its window is refused, and each read gives the value its signal had when that window opened, as worked out from the defaults
+-- and the writes since loading alone.
+pub record Demand3 : Type 0 where
+  pub loads : LoadsExactly
+  pub runs : RunsAsPromised
+
+pub record Demands : Type 0 where
+  pub first : Demand1
+  pub second : Demand2
+  pub third : Demand3
