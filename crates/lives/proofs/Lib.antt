@@ -7,3 +7,4 @@ pub mod Rows
 pub mod While
 pub mod Lending
 pub mod Says
+pub mod Packing

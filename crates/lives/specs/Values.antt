@@ -1,5 +1,5 @@
 -- The values of one signal as the code finds them: one after the other, each with its life and its element. Assumes nothing.
-use Prim.Native.Nat.{ℕ, zero, suc, _+_, _*_, _-_, _/_, _≤_, _<_}
+use Prim.Native.Nat.{ℕ, zero, suc, _+_, _*_, _-_, _/_, _%_, _≤_, _<_}
 use mathlib.Core.Bool.{Bool, _&&_}
 use mathlib.Core.List.{List, [], _∷_, map, _++_}
 use mathlib.Core.Path.{_≡_}
@@ -80,6 +80,23 @@ valueAt lives k = getD (lives .values) k blank
 -- the first n records are those of the values, and those beyond stay
 abbrev pub filled : Lives → ℕ → List LiveValue → List LiveValue
 filled lives n ys = firsts (valueAt lives) n ++ drop n ys
+
+-- ---- the values as plain numbers, five for each
+
+abbrev pub recordWords : ℕ
+recordWords = 5
+
+abbrev pub recordIn : List ℕ → ℕ → LiveValue
+recordIn words k = record {
+  task = getD words (k * recordWords) 0 % 256;
+  instance = getD words (k * recordWords + 1) 0 % 65536;
+  from = getD words (k * recordWords + 2) 0;
+  until = getD words (k * recordWords + 3) 0;
+  element = getD words (k * recordWords + 4) 0 % 256;
+}
+
+abbrev pub filledFrom : List ℕ → ℕ → List LiveValue → List LiveValue
+filledFrom words n ys = firsts (recordIn words) n ++ drop n ys
 
 -- what a list of so many records is filled with, and what is answered
 pub record Fills (table : List ℕ) (s room : ℕ) (lives : Lives) : Type 0 where

@@ -1,6 +1,7 @@
 // The live list of one signal, filled into a lent list of records.
 mod list;
 mod values;
+mod words;
 
 pub use list::Lived;
 pub use list::MOST_LENT;

@@ -3,17 +3,19 @@ use crate::LiveValue;
 use crate::Lives;
 use crate::values::none;
 use crate::values::values_of;
+use crate::words::packed;
+use crate::words::record_in;
 use answers::DONE;
 use answers::number;
 use records::grid::read_grid;
 use rules::Answer;
 use table::read_table;
 ghost use mathlib.Core.Path.{_≡_};
-ghost use Prim.Native.Nat.{_<_, _≤_, min};
+ghost use Prim.Native.Nat.{_*_, _≤_, min};
 ghost use lib.ListN.{length, replicate};
 ghost use Rattle.rules.specs.Numbers.{told};
 ghost use Rattle.lives.specs.Lives.{liveTold, liveFront, liveOut, mostLent};
-ghost use Rattle.lives.specs.Values.{mostValues, valueAt, filled, Fills};
+ghost use Rattle.lives.specs.Values.{mostValues, recordWords, filledFrom, filled, Fills};
 
 // The most records that a caller without a list of its own is lent.
 pub const MOST_LENT: usize = 600;
@@ -46,13 +48,6 @@ fn lives_of(table: &[u8], signal: usize, room: usize) -> Lives
     lives
 }
 
-fn value_at(lives: Lives, k: usize) -> LiveValue
-    requires { ⌜ k < mostValues ⌝ }
-    ensures { λ r. ⌜ r ≡ valueAt lives k ⌝ }
-{
-    lives.values[k]
-}
-
 fn count_of(lives: Lives) -> usize
     ensures { λ r. ⌜ r ≡ lives .count ⌝ }
 {
@@ -65,16 +60,25 @@ fn answer_of(lives: Lives) -> Answer
     lives.answer
 }
 
-// The first n records are filled, and those beyond stay.
+// The first n records are filled from the numbers, and those beyond stay.
+fn fill_from(list: &mut [LiveValue], words: &[u32], n: usize)
+    requires { ⌜ (n ≤ length (now list)) × (n * recordWords ≤ length (now words)) ⌝ }
+    ensures { λ _. ⌜ now (list .exit) ≡ filledFrom (now (words .entry)) n (now (list .entry)) ⌝ }
+{
+    let mut k = 0;
+    while k < n {
+        list[k] = record_in(words, k);
+        k = k + 1;
+    }
+}
+
+// The first n records are filled with the values, and those beyond stay.
 fn fill(list: &mut [LiveValue], lives: Lives, n: usize)
     requires { ⌜ (n ≤ length (now list)) × (n ≤ mostValues) ⌝ }
     ensures { λ _. ⌜ now (list .exit) ≡ filled lives n (now (list .entry)) ⌝ }
 {
-    let mut k = 0;
-    while k < n {
-        list[k] = value_at(lives, k);
-        k = k + 1;
-    }
+    let words = packed(lives);
+    fill_from(list, &words, n);
 }
 
 // The first records of a list are lent.
