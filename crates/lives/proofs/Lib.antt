@@ -8,3 +8,4 @@ pub mod While
 pub mod Lending
 pub mod Says
 pub mod Packing
+pub mod Exact

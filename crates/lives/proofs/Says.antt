@@ -49,7 +49,7 @@ refuses table s room a e n = record {
   few = omega arith;
 }
 
-length-lives : (tab : Table) (s : ℕ) → length (liveValues tab s) ≡ length (liveList tab s)
+pub length-lives : (tab : Table) (s : ℕ) → length (liveValues tab s) ≡ length (liveList tab s)
 unfolding liveValues
 length-lives tab s = length-map (lines tab s) valueOf ∙ length-map (liveList tab s) lineOf
 

@@ -1,4 +1,4 @@
-// The lent list: covered functions decide what is answered and filled in, and a loop stores it. A refusal fills no record.
+// The lent list. What is answered and filled in is decided first, by value; then one loop stores it. A refusal fills no record.
 use crate::LiveValue;
 use crate::Lives;
 use crate::values::none;
