@@ -4,3 +4,4 @@ pub mod Lists
 pub mod Schedules
 pub mod Runs
 pub mod Demands
+pub mod One

@@ -1,0 +1,40 @@
+-- No other result meets a contract: specs/One.antt, proved.
+use mathlib.Core.Path.{_≡_, sym, _∙_}
+use Rattle.fields.proofs.Told.{told-exact}
+use Rattle.records.proofs.Exact.{task-exact, signal-exact, access-exact, end-exact}
+use Rattle.lives.specs.declared.list.Lived.{Lived}
+use Rattle.table.proofs.Exact.{table-exact}
+use Rattle.machine.proofs.Load.{loads-exact}
+use Rattle.promises.specs.One.{One, Determined}
+
+-- a contract that names its result
+named : {A : Type 0} (given : A) → One (λ (r : A). r ≡ given)
+named given a b p q = p ∙ sym q
+
+-- two results whose parts are equal
+paired : {A B : Type 0} (x y : A × B) → x .0 ≡ y .0 → x .1 ≡ y .1 → x ≡ y
+paired x y p q = λ i. (p i, q i)
+
+lived : (a b : Lived) → a .answer ≡ b .answer → a .values ≡ b .values → a ≡ b
+lived a b p q = λ i. record { answer = p i; values = q i }
+
+pub determined : Determined
+determined = record {
+  read-table = λ bytes a b p q. table-exact a b (p ∙ sym q);
+  plan = λ table out a b p q. paired a b (told-exact (a .0) (b .0) (p .0 ∙ sym (q .0))) (p .1 ∙ sym (q .1));
+  live-list = λ table signal list a b p q. paired a b (told-exact (a .0) (b .0) (p .0 ∙ sym (q .0))) (p .1 ∙ sym (q .1));
+  lent = λ table signal room before a b p q. lived a b (told-exact (a .answer) (b .answer) (p .0 ∙ sym (q .0))) (p .1 ∙ sym (q .1));
+  check-schedule = λ table schedule a b p q. told-exact a b (p ∙ sym q);
+  new = named _;
+  load = loads-exact;
+  step = λ m. named _;
+  read = λ m task signal. named _;
+  write = λ m task signal word. named _;
+  number = λ a. named _;
+  place = λ a. named _;
+  task = λ bytes count at a b p q. task-exact a b (p ∙ sym q);
+  signal = λ bytes count at a b p q. signal-exact a b (p ∙ sym q);
+  access = λ bytes tasks signals count last at a b p q. access-exact a b (p ∙ sym q);
+  end = λ bytes at a b p q. end-exact a b (p ∙ sym q);
+  reader = named;
+}

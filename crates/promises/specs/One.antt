@@ -1,0 +1,69 @@
+-- Document 01, "How tight the contracts are": of every public function, two results, with the final contents of what is lent, that meet its contract
+-- are equal. Each clause stands under the function's name; `.ci/surface` holds the list against the sources. proofs/One.antt proves it. Assumes nothing.
+use Prim.Native.Nat.{ℕ, min}
+use mathlib.Core.Path.{_≡_}
+use mathlib.Core.List.{List}
+use lib.ListN.{replicate}
+use Rattle.rules.specs.Numbers.{told}
+use Rattle.rules.specs.Records.{taskAt, signalAt, accessAt, endAt}
+use Rattle.rules.specs.declared.Access.{Access}
+use Rattle.rules.specs.declared.Answer.{Answer}
+use Rattle.records.specs.Said.{taskSaid, signalSaid, accessSaid, endSaid}
+use Rattle.records.specs.declared.records.TaskStep.{TaskStep}
+use Rattle.records.specs.declared.records.SignalStep.{SignalStep}
+use Rattle.records.specs.declared.records.AccessStep.{AccessStep}
+use Rattle.records.specs.declared.records.Ending.{Ending}
+use Rattle.table.specs.declared.reading.TableRead.{TableRead}
+use Rattle.lives.specs.declared.LiveValue.{LiveValue}
+use Rattle.lives.specs.declared.list.Lived.{Lived}
+use Rattle.lives.specs.Lives.{liveTold, liveFront, mostLent}
+use Rattle.machine.specs.declared.Machine.{Machine}
+use Rattle.machine.specs.declared.Stepped.{Stepped}
+use Rattle.machine.specs.declared.WordRead.{WordRead}
+use Rattle.machine.specs.Calls.{unloaded, stepOf, readOf, writeOf}
+use Rattle.machine.specs.Load.{Loads}
+use Rattle.promises.specs.Tables.{Gives}
+use Rattle.promises.specs.Plans.{PlanGives}
+use Rattle.promises.specs.Lists.{ListGives}
+use Rattle.promises.specs.Schedules.{CheckGives}
+
+-- all that meet a contract are equal
+abbrev pub One : {A : Type 0} → (A → Type 0) → Type 0
+One {A} Meets = (a b : A) → Meets a → Meets b → a ≡ b
+
+pub record Determined : Type 1 where
+  -- table::read_table
+  pub read-table : (bytes : List ℕ) → One (λ (r : TableRead). Gives bytes r)
+  -- plan::plan
+  pub plan : (table out : List ℕ) → One (λ (x : Answer × List ℕ). PlanGives table out (x .0) (x .1))
+  -- lives::live_list
+  pub live-list : (table : List ℕ) (signal : ℕ) (list : List LiveValue) → One (λ (x : Answer × List LiveValue). ListGives table signal list (x .0) (x .1))
+  -- lives::lent
+  pub lent : (table : List ℕ) (signal room : ℕ) (before : LiveValue)
+      → One (λ (r : Lived). (told (r .answer) ≡ liveTold table signal (min room mostLent)) × (r .values ≡ liveFront table signal (min room mostLent) (replicate mostLent before)))
+  -- inspect::check_schedule
+  pub check-schedule : (table schedule : List ℕ) → One (λ (r : Answer). CheckGives table schedule r)
+  -- machine::Machine::new
+  pub new : One (λ (r : Machine). r ≡ unloaded)
+  -- machine::Machine::load
+  pub load : (m : Machine) (table schedule : List ℕ) → One (λ (r : Stepped). Loads m table schedule r)
+  -- machine::Machine::step
+  pub step : (m : Machine) → One (λ (r : Stepped). r ≡ stepOf m)
+  -- machine::Machine::read
+  pub read : (m : Machine) (task signal : ℕ) → One (λ (r : WordRead). r ≡ readOf m task signal)
+  -- machine::Machine::write
+  pub write : (m : Machine) (task signal word : ℕ) → One (λ (r : Stepped). r ≡ writeOf m task signal word)
+  -- answers::number
+  pub number : (a : Answer) → One (λ (n : ℕ). n ≡ told a .number)
+  -- answers::place
+  pub place : (a : Answer) → One (λ (n : ℕ). n ≡ told a .place)
+  -- records::reader::next_task, records::reader::task_at
+  pub task : (bytes : List ℕ) (count at : ℕ) → One (λ (r : TaskStep). taskSaid r ≡ taskAt bytes count at)
+  -- records::reader::next_signal, records::reader::signal_at
+  pub signal : (bytes : List ℕ) (count at : ℕ) → One (λ (r : SignalStep). signalSaid r ≡ signalAt bytes count at)
+  -- records::reader::next_access, records::reader::access_at
+  pub access : (bytes : List ℕ) (tasks signals count : ℕ) (last : Access) (at : ℕ) → One (λ (r : AccessStep). accessSaid r ≡ accessAt bytes tasks signals count last at)
+  -- records::reader::next_end, records::reader::end_at
+  pub end : (bytes : List ℕ) (at : ℕ) → One (λ (r : Ending). endSaid r ≡ endAt bytes at)
+  -- records::reader::new, records::reader::moved, records::reader::placed: the contract names the reader that is given
+  pub reader : {Reader : Type 0} (given : Reader) → One (λ (r : Reader). r ≡ given)
