@@ -15,6 +15,10 @@ named given a b p q = p ∙ sym q
 paired : {A B : Type 0} (x y : A × B) → x .0 ≡ y .0 → x .1 ≡ y .1 → x ≡ y
 paired x y p q = λ i. (p i, q i)
 
+-- and three
+threefold : {A B C : Type 0} (x y : A × B × C) → x .0 ≡ y .0 → x .1 ≡ y .1 → x .2 ≡ y .2 → x ≡ y
+threefold x y p q r = λ i. (p i, q i, r i)
+
 lived : (a b : Lived) → a .answer ≡ b .answer → a .values ≡ b .values → a ≡ b
 lived a b p q = λ i. record { answer = p i; values = q i }
 
@@ -37,4 +41,10 @@ determined = record {
   access = λ bytes tasks signals count last at a b p q. access-exact a b (p ∙ sym q);
   end = λ bytes at a b p q. end-exact a b (p ∙ sym q);
   reader = named;
+  press-table = λ table a b p q. paired a b (p .0 ∙ sym (q .0)) (p .1 ∙ sym (q .1));
+  press-plan = λ table out a b p q. threefold a b (p .0 ∙ sym (q .0)) (p .1 ∙ sym (q .1)) (p .2 ∙ sym (q .2));
+  press-check = λ table schedule a b p q. paired a b (p .0 ∙ sym (q .0)) (p .1 ∙ sym (q .1));
+  press-live = λ table signal list a b p q. threefold a b (p .0 ∙ sym (q .0)) (p .1 ∙ sym (q .1)) (p .2 ∙ sym (q .2));
+  press-new = named _;
+  press-load = λ m table schedule a b p q. threefold a b (p .0 ∙ sym (q .0)) (p .1 ∙ sym (q .1)) (p .2 ∙ sym (q .2));
 }

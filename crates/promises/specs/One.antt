@@ -3,8 +3,10 @@
 use Prim.Native.Nat.{ℕ, min}
 use mathlib.Core.Path.{_≡_}
 use mathlib.Core.List.{List}
-use lib.ListN.{replicate}
+use lib.ListN.{length, replicate}
 use Rattle.rules.specs.Numbers.{told}
+use Rattle.rules.specs.Reading.{readSays}
+use Rattle.rules.specs.Loading.{loadSays}
 use Rattle.rules.specs.Records.{taskAt, signalAt, accessAt, endAt}
 use Rattle.rules.specs.declared.Access.{Access}
 use Rattle.rules.specs.declared.Answer.{Answer}
@@ -13,15 +15,16 @@ use Rattle.records.specs.declared.records.TaskStep.{TaskStep}
 use Rattle.records.specs.declared.records.SignalStep.{SignalStep}
 use Rattle.records.specs.declared.records.AccessStep.{AccessStep}
 use Rattle.records.specs.declared.records.Ending.{Ending}
+use Rattle.plan.specs.Planning.{planTold, planOut}
 use Rattle.table.specs.declared.reading.TableRead.{TableRead}
 use Rattle.lives.specs.declared.LiveValue.{LiveValue}
 use Rattle.lives.specs.declared.list.Lived.{Lived}
-use Rattle.lives.specs.Lives.{liveTold, liveFront, mostLent}
+use Rattle.lives.specs.Lives.{liveTold, liveFront, liveOut, mostLent}
 use Rattle.machine.specs.declared.Machine.{Machine}
 use Rattle.machine.specs.declared.Stepped.{Stepped}
 use Rattle.machine.specs.declared.WordRead.{WordRead}
 use Rattle.machine.specs.Calls.{unloaded, stepOf, readOf, writeOf}
-use Rattle.machine.specs.Load.{Loads}
+use Rattle.machine.specs.Load.{loadLeaves, Loads}
 use Rattle.promises.specs.Tables.{Gives}
 use Rattle.promises.specs.Plans.{PlanGives}
 use Rattle.promises.specs.Lists.{ListGives}
@@ -67,3 +70,21 @@ pub record Determined : Type 1 where
   pub end : (bytes : List ℕ) (at : ℕ) → One (λ (r : Ending). endSaid r ≡ endAt bytes at)
   -- records::reader::new, records::reader::moved, records::reader::placed: the contract names the reader that is given
   pub reader : {Reader : Type 0} (given : Reader) → One (λ (r : Reader). r ≡ given)
+
+  -- ---- the library for firmware: number, place, and what is lent
+
+  -- export::press_table
+  pub press-table : (table : List ℕ) → One (λ (x : ℕ × ℕ). (x .0 ≡ readSays table .number) × (x .1 ≡ readSays table .place))
+  -- export::press_plan
+  pub press-plan : (table out : List ℕ)
+      → One (λ (x : ℕ × ℕ × List ℕ). (x .0 ≡ planTold table (length out) .number) × (x .1 ≡ planTold table (length out) .place) × (x .2 ≡ planOut table out))
+  -- export::press_check
+  pub press-check : (table schedule : List ℕ) → One (λ (x : ℕ × ℕ). (x .0 ≡ loadSays table schedule .number) × (x .1 ≡ loadSays table schedule .place))
+  -- export::press_live
+  pub press-live : (table : List ℕ) (signal : ℕ) (list : List LiveValue)
+      → One (λ (x : ℕ × ℕ × List LiveValue). (x .0 ≡ liveTold table signal (length list) .number) × (x .1 ≡ liveTold table signal (length list) .place) × (x .2 ≡ liveOut table signal list))
+  -- export::press_new
+  pub press-new : One (λ (m : Machine). m ≡ unloaded)
+  -- export::press_load
+  pub press-load : (m : Machine) (table schedule : List ℕ)
+      → One (λ (x : ℕ × ℕ × Machine). (x .0 ≡ loadSays table schedule .number) × (x .1 ≡ loadSays table schedule .place) × (x .2 ≡ loadLeaves m table schedule))
