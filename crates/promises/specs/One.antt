@@ -70,7 +70,6 @@ pub record Determined : Type 1 where
   pub end : (bytes : List ℕ) (at : ℕ) → One (λ (r : Ending). endSaid r ≡ endAt bytes at)
   -- records::reader::new, records::reader::moved, records::reader::placed: the contract names the reader that is given
   pub reader : {Reader : Type 0} (given : Reader) → One (λ (r : Reader). r ≡ given)
-
   -- ---- the library for firmware: number, place, and what is lent
 
   -- export::press_table
