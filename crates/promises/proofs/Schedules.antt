@@ -1,26 +1,17 @@
 -- Schedules are checked exactly: specs/Schedules.antt, proved.
 use Prim.Native.Nat.{ℕ}
-use mathlib.Core.Path.{_≡_, refl, sym, ap, subst, _∙_}
+use mathlib.Core.Path.{_≡_, sym, ap, subst, _∙_}
 use mathlib.Core.Bool.{not}
 use mathlib.Core.List.{List}
 use lib.ListN.{take, drop}
 use lib.Seq.{take-at}
 use borrow.Author.Tests.{eq-eqb, ne-eqb}
-use Rattle.rules.specs.Words.{total, every, highest, gather, when, lowest}
-use Rattle.rules.specs.Euclid.{gcdIn, gcdOf, lcmOf}
-use Rattle.rules.specs.Windows.{lcmAll, hyper}
-use Rattle.rules.specs.Values.{same, publisher, latest, bound, next, lastOf, lastReader, until}
-use Rattle.rules.specs.Table.{accessesOf, uses, everyWriter, windowed, single}
-use Rattle.rules.specs.Schedule.{Schedule, base, Passes, clash}
+use Rattle.rules.specs.Schedule.{Schedule, Passes}
 use Rattle.rules.specs.Plan as plans
-use Rattle.rules.specs.Fields.{holdsAt, markAt}
-use Rattle.rules.specs.Bytes.{writersBelow, readersBelow, partsOf, parts, sizeOf, startOf, scheduleLength, bytesOf, scheduleIn}
-use Rattle.rules.specs.Encode.{encode}
-use Rattle.rules.specs.Cases.{A, D}
+use Rattle.rules.specs.Bytes.{scheduleLength, bytesOf, scheduleIn}
 use Rattle.rules.specs.Numbers.{Told, tell, told, allDone}
-use Rattle.rules.specs.Answers.{standsAt, tableSays, recordsSay, endSays, firstSays, wholeSays, checkSays}
-use Rattle.rules.specs.Records.{taskIn, taskAt, signalAt, rightAt, accessIn, accessAt, endAt}
-use Rattle.rules.specs.Reading.{section, tasksIn, signalsIn, accessesIn, joinedOf, gridFrom, writesIn, readsIn, gridIn, tableIn, ended, verdict, readSays}
+use Rattle.rules.specs.Answers.{checkSays}
+use Rattle.rules.specs.Reading.{tableIn, readSays}
 use Rattle.rules.specs.Loading.{loadSays}
 use Rattle.rules.specs.declared.Answer.{Answer}
 use Rattle.theory.specs.First.{FirstBroken, BrokenCheck, checkTold, checkRules}
@@ -29,7 +20,7 @@ use Rattle.theory.proofs.Loads.{both-accepted}
 use Rattle.theory.proofs.Proved.{bytes-checked-exactly, check-says-first, whatever-is-read-keeps}
 use Rattle.fields.proofs.Told.{told-exact}
 use Rattle.fields.proofs.Whens.{on, off}
-use Rattle.promises.specs.Schedules.{SchedulesExactly, PlansPass, schedule-A, schedule-D, ToldApart}
+use Rattle.promises.specs.Schedules.{SchedulesExactly, PlansPass}
 use Rattle.promises.proofs.Plans.{read-accepted, all-plans-rightly}
 
 -- ---- what the table and then the schedule say
@@ -77,16 +68,3 @@ plans-pass table out r after g z q h =
     let front : take (told r .place) after ≡ bytesOf tab (plans.plan tab)
     = ap (λ (t : Told). take (t .place) after) telling ∙ ap (take (scheduleLength tab)) left ∙ take-at (bytesOf tab (plans.plan tab)) (drop (scheduleLength tab) out) (scheduleLength tab) (bytes-length tab (plans.plan tab)) in
     told-exact q (Answer.Done 0) (h ∙ ap (loadSays table) front ∙ read-first table (bytesOf tab (plans.plan tab)) (read-accepted table out r after g z) ∙ checked)
-
--- ---- cases A, H and I, computed
-
-cases : (loadSays (encode A) (schedule-A 1) ≡ tell 0 0) × (loadSays (encode D) (schedule-D 1) ≡ tell 22 11) × (loadSays (encode A) (schedule-A 0) ≡ tell 21 18)
-unfolding total every highest gather when lowest gcdIn gcdOf lcmOf lcmAll hyper same publisher latest bound next lastOf lastReader until accessesOf uses everyWriter windowed single base clash writersBelow readersBelow partsOf parts sizeOf startOf scheduleIn standsAt tableSays recordsSay endSays firstSays wholeSays checkSays holdsAt markAt encode taskIn taskAt signalAt rightAt accessIn accessAt endAt section tasksIn signalsIn accessesIn joinedOf gridFrom writesIn readsIn gridIn tableIn ended verdict readSays loadSays
-cases = (refl, refl, refl)
-
-pub told-apart : ToldApart
-told-apart = record {
-  A-passes = λ r g. told-exact r (Answer.Done 0) (g ∙ cases .0);
-  H-shares = λ r g. told-exact r (Answer.Shared 11) (g ∙ cases .1);
-  I-is-sent-wrong = λ r g. told-exact r (Answer.WrongReader 18) (g ∙ cases .2);
-}

@@ -2,13 +2,11 @@
 -- that is broken is told; and what `plan::plan` writes passes. proofs/Schedules.antt proves it. Assumes nothing.
 use Prim.Native.Nat.{ℕ}
 use mathlib.Core.Path.{_≡_}
-use mathlib.Core.List.{List, [], _∷_}
+use mathlib.Core.List.{List}
 use mathlib.Core.Logic.{_↔_}
 use lib.ListN.{take}
 use Rattle.rules.specs.Schedule.{Schedule, Passes}
 use Rattle.rules.specs.Bytes.{bytesOf}
-use Rattle.rules.specs.Encode.{encode}
-use Rattle.rules.specs.Cases.{A, D}
 use Rattle.rules.specs.Numbers.{told, allDone}
 use Rattle.rules.specs.Reading.{tableIn, readSays}
 use Rattle.rules.specs.Loading.{loadSays}
@@ -41,17 +39,3 @@ SchedulesExactly = (table schedule : List ℕ) (r : Answer) → CheckGives table
 abbrev pub PlansPass : Type 0
 PlansPass = (table out : List ℕ) (r : Answer) (after : List ℕ) → PlanGives table out r after → told r .number ≡ allDone
     → (q : Answer) → CheckGives table (take (told r .place) after) q → q ≡ Answer.Done 0
-
--- case A's schedule, and I's, with the element of the second RI
-abbrev pub schedule-A : ℕ → List ℕ
-schedule-A e = 0x42 ∷ 0x46 ∷ 0 ∷ 2 ∷ 0x57 ∷ 0x49 ∷ 0 ∷ 0 ∷ 0 ∷ 0 ∷ 1 ∷ 0x52 ∷ 0x49 ∷ 0 ∷ 1 ∷ 0 ∷ 0 ∷ 0 ∷ 0x52 ∷ 0x49 ∷ 0 ∷ 1 ∷ 0 ∷ 1 ∷ e ∷ 0x45 ∷ 0x4e ∷ []
-
--- case D's, and H's, with the element of the second WI
-abbrev pub schedule-D : ℕ → List ℕ
-schedule-D e = 0x42 ∷ 0x46 ∷ 0 ∷ 2 ∷ 0x57 ∷ 0x49 ∷ 0 ∷ 0 ∷ 0 ∷ 0 ∷ 1 ∷ 0x57 ∷ 0x49 ∷ 0 ∷ 0 ∷ 0 ∷ 1 ∷ e ∷ 0x52 ∷ 0x49 ∷ 0 ∷ 1 ∷ 0 ∷ 0 ∷ 1 ∷ 0x45 ∷ 0x4e ∷ []
-
--- So a check that refuses all does not meet the contract (A), and none that passes all does (H, I).
-pub record ToldApart : Type 0 where
-  pub A-passes : (r : Answer) → CheckGives (encode A) (schedule-A 1) r → r ≡ Answer.Done 0
-  pub H-shares : (r : Answer) → CheckGives (encode D) (schedule-D 1) r → r ≡ Answer.Shared 11
-  pub I-is-sent-wrong : (r : Answer) → CheckGives (encode A) (schedule-A 0) r → r ≡ Answer.WrongReader 18
