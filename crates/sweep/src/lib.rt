@@ -31,9 +31,9 @@ pub const KINDS: usize = TICK as usize;
 // What the pass keeps beside the until-ticks: no mistake was met; the element of the value that stands; the last closing of the
 // readers that opened since it was published.
 pub struct Standing {
-    pub right: bool,
     pub current: usize,
     pub reach: u32,
+    pub right: bool,
 }
 
 // Where the element of the first instance of each task stands, as a reader and as a writer of the signal.
