@@ -87,3 +87,9 @@ pub record Determined : Type 1 where
   -- export::press_load
   pub press-load : (m : Machine) (table schedule : List ℕ)
       → One (λ (x : ℕ × ℕ × Machine). (x .0 ≡ loadSays table schedule .number) × (x .1 ≡ loadSays table schedule .place) × (x .2 ≡ loadLeaves m table schedule))
+  -- export::press_step
+  pub press-step : (m : Machine) → One (λ (x : ℕ × Machine). (x .0 ≡ told (stepOf m .answer) .number) × (x .1 ≡ stepOf m .machine))
+  -- export::press_read
+  pub press-read : (m : Machine) (task signal : ℕ) → One (λ (x : ℕ × ℕ). (x .0 ≡ told (readOf m task signal .answer) .number) × (x .1 ≡ readOf m task signal .word))
+  -- export::press_write
+  pub press-write : (m : Machine) (task signal word : ℕ) → One (λ (x : ℕ × Machine). (x .0 ≡ told (writeOf m task signal word .answer) .number) × (x .1 ≡ writeOf m task signal word .machine))
