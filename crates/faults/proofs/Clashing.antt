@@ -3,7 +3,7 @@ use mathlib.Core.Path.{_≡_, refl, sym, ap, ap₂, _∙_}
 use mathlib.Core.Bool.{Bool, true, false, not, _&&_, _||_}
 use mathlib.Core.Logic.{⊎-elim}
 use mathlib.Core.List.{List}
-use Prim.Native.Nat.{ℕ, _<_}
+use Prim.Native.Nat.{ℕ, _≤_, _<_}
 use native.Mathlib.Omega.{arith}
 use lib.Dec.{eqb, ltb}
 use borrow.Author.Tests.{eqb-true, ltb-true, lt-ltb, eq-eqb}
@@ -21,21 +21,34 @@ use Rattle.form.specs.declared.sides.Side.{Side}
 use Rattle.table.proofs.Clashes.{every-fails, every-holds}
 use Rattle.faults.specs.declared.View.{View}
 use Rattle.faults.specs.declared.lives.Held.{Held}
-use Rattle.faults.specs.Faults.{viewTable, viewSchedule, Seen, Has, recordsIn, heldOf, clashing, apartFrom, apartFromEarlier}
+use Rattle.faults.specs.declared.untils.Writer.{Writer}
+use Rattle.faults.specs.Faults.{viewTable, viewSchedule, Seen, Has, recordsIn, heldOf, clashing, apartFrom, apartFromEarlier, Kept, writerOf, heldAt}
 use Rattle.faults.proofs.Viewed.{has-of, has-below}
+use Rattle.faults.proofs.Numbered.{value-is}
 
-pub apart-at : (tab : Table) (E : Schedule) (s : ℕ) (held : Held) (k : ℕ) {r : Bool} {n m : ℕ} → r ≡ apartFrom tab E s held k n → n ≡ m → apartFrom tab E s held k m ≡ r
-apart-at tab E s held k e q = sym (e ∙ ap (apartFrom tab E s held k) q)
+every-same : (n : ℕ) (p q : ℕ → Bool) → ((k : ℕ) → k < n → p k ≡ q k) → every n p ≡ every n q
+every-same n p q f = agree (λ e. every-is n q (λ k h. sym (f k h) ∙ every-at n p e k h)) (λ e. every-is n p (λ k h. f k h ∙ every-at n q e k h))
+
+-- the same values
+apart-same : (values others : ℕ → Held) (held : Held) {r : Bool} {n m : ℕ} → r ≡ apartFrom values held n → n ≡ m → ((i : ℕ) → i < n → values i ≡ others i) → apartFrom others held m ≡ r
+unfolding apartFrom
+apart-same values others held {r} {n} {m} e q f = sym (e ∙ every-same n _ _ (λ i h. ap (λ (v : Held). not (clashing v held)) (f i h)) ∙ ap (apartFrom others held) q)
+
+-- those of task k, from what is kept
+pub apart-is : (v : View) (grid : Grid) (bytes : List ℕ) → Seen v grid bytes → (untils : List ℕ) → Kept v grid untils → (k : ℕ) → k < v .tasks .count → {w : Writer} → w ≡ writerOf v k → (held : Held) {r : Bool} {n m : ℕ} → n ≤ recordsIn (viewTable v grid) grid Side.Writers (v .signal) k → n ≡ m
+    → r ≡ apartFrom (heldAt w untils bytes) held n → apartFrom (λ j. heldOf (viewTable v grid) (viewSchedule v grid bytes) (by (v .signal) k j)) held m ≡ r
+apart-is v grid bytes K untils A k h {w} e held l q a =
+    apart-same (heldAt w untils bytes) (λ j. heldOf (viewTable v grid) (viewSchedule v grid bytes) (by (v .signal) k j)) held a q (λ i m. value-is v grid bytes K k e untils A i (has-of v grid Side.Writers k i h l m))
 
 -- the earlier tasks, then the earlier instances of the same task
 module _ (tab : Table) (grid : Grid) (E : Schedule) (s : ℕ) (held : Held) (k i : ℕ) where
-  pub earlier-fails : (l : ℕ) → l < k → apartFrom tab E s held l (recordsIn tab grid Side.Writers s l) ≡ false → false ≡ apartFromEarlier tab grid E s held k i
+  pub earlier-fails : (l : ℕ) → l < k → apartFrom (λ j. heldOf tab E (by s l j)) held (recordsIn tab grid Side.Writers s l) ≡ false → false ≡ apartFromEarlier tab grid E s held k i
   unfolding apartFromEarlier
-  earlier-fails l h e = ap (λ (b : Bool). b && apartFrom tab E s held k i) (every-fails k l _ h e)
+  earlier-fails l h e = ap (λ (b : Bool). b && apartFrom (λ j. heldOf tab E (by s k j)) held i) (every-fails k l _ h e)
 
-  pub earlier-holds : {r : Bool} → r ≡ apartFrom tab E s held k i → ((l : ℕ) → l < k → apartFrom tab E s held l (recordsIn tab grid Side.Writers s l) ≡ true) → r ≡ apartFromEarlier tab grid E s held k i
+  pub earlier-holds : {r : Bool} → r ≡ apartFrom (λ j. heldOf tab E (by s k j)) held i → ((l : ℕ) → l < k → apartFrom (λ j. heldOf tab E (by s l j)) held (recordsIn tab grid Side.Writers s l) ≡ true) → r ≡ apartFromEarlier tab grid E s held k i
   unfolding apartFromEarlier
-  earlier-holds e f = e ∙ ap (λ (b : Bool). b && apartFrom tab E s held k i) (every-holds k _ f)
+  earlier-holds e f = e ∙ ap (λ (b : Bool). b && apartFrom (λ j. heldOf tab E (by s k j)) held i) (every-holds k _ f)
 
 module _ (tab : Table) (E : Schedule) where
   clash-is : (u v : Value) → same u v ≡ false → clash tab E u v ≡ clashing (heldOf tab E u) (heldOf tab E v)
@@ -82,7 +95,7 @@ module _ (v : View) (grid : Grid) (bytes : List ℕ) (K : Seen v grid bytes) (k 
       (every-is i _ (λ j m.
       ap not (sym (clash-own k j (λ p q. omega arith))) ∙ unless (earlier k j) _ (writer-at tab s _ e k j (H .0) (holds (H .1)) (omega (arith, H .2))) (or-right (ltb k k) _ (and-is (eq-eqb k k refl) (lt-ltb j i m))))))
       (λ e.
-      let a = both (every k (λ l. apartFrom tab E s own l (recordsIn tab grid Side.Writers s l))) (apartFrom tab E s own k i) e in
+      let a = both (every k (λ l. apartFrom (λ j. heldOf tab E (by s l j)) own (recordsIn tab grid Side.Writers s l))) (apartFrom (λ j. heldOf tab E (by s k j)) own i) e in
       writer-is tab s _ (λ l j h w m. unless-is (earlier l j) _ (λ o.
       ⊎-elim
       (λ x.

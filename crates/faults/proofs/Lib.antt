@@ -1,3 +1,4 @@
 pub mod Viewed
+pub mod Numbered
 pub mod Clashing
 pub mod Searched

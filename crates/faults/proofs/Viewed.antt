@@ -61,6 +61,10 @@ made from element until = record { element = element; from = from; until = until
 pub held-is : (from : ℕ) {e d u r : ℕ} → e ≡ d → u ≡ r → made from e u ≡ made from d r
 held-is from e u = ap₂ (made from) e u
 
+pub none-below : (tab : Table) (s : ℕ) → writersBelow tab s 0 ≡ 0
+unfolding writersBelow total
+none-below tab s = refl
+
 module _ (v : View) (grid : Grid) (bytes : List ℕ) (K : Seen v grid bytes) where
   abbrev tab : Table
   tab = viewTable v grid
@@ -99,6 +103,11 @@ module _ (v : View) (grid : Grid) (bytes : List ℕ) (K : Seen v grid bytes) whe
     omega (arith, whole-signal .0, reader-inside tab s k i h w l),
     omega (arith, whole-signal .1, reader-inside tab s k i h w l),
   )
+
+  -- the writers' places tell how many records stand before theirs
+  pub places-apart : (k : ℕ) → k < v .tasks .count → getD (v .places .writers) k 0 ≡ getD (v .places .writers) 0 0 + 7 * writersBelow tab s k
+  unfolding startOf
+  places-apart k h = omega (arith, K .areat .writers k h, start-alone (wi s k 0), K .areat .writers 0 (omega arith), start-alone (wi s 0 0), none-below tab s)
 
   pub written-is : (k i : ℕ) → Has v grid Side.Writers k i → elementAt bytes (getD (v .places .writers) k 0) i ≡ E .writer s k i
   unfolding scheduleIn

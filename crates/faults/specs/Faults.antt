@@ -2,26 +2,27 @@
 use mathlib.Core.Path.{_≡_}
 use mathlib.Core.Bool.{Bool, true, false, not, _&&_}
 use mathlib.Core.List.{List}
-use Prim.Native.Nat.{ℕ, _≤_, _<_}
+use Prim.Native.Nat.{ℕ, _+_, _*_, _-_, _/_, _≤_, _<_}
 use lib.Dec.{eqb, ltb}
 use lib.ListN.{length, getD}
 use Rattle.rules.specs.Words.{gather, times, every, when}
 use Rattle.rules.specs.Windows.{Table, hyper, instances}
 use Rattle.rules.specs.Values.{Value, by, opening, until}
-use Rattle.rules.specs.Table.{Fits}
+use Rattle.rules.specs.Table.{longest, mostInstances, Fits}
 use Rattle.rules.specs.Schedule.{Schedule, elementOf}
-use Rattle.rules.specs.Bytes.{Part, startOf, scheduleLength, scheduleIn}
+use Rattle.rules.specs.Bytes.{Part, writersBelow, startOf, scheduleLength, scheduleIn}
 use Rattle.rules.specs.Numbers.{Told, tell}
 use Rattle.rules.specs.Answers.{sentWrong, sharing}
-use Rattle.rules.specs.Reading.{Grid, tableOf}
+use Rattle.rules.specs.Reading.{Grid, taskOf, tableOf}
 use Rattle.table.specs.declared.reading.TableRead.{TableRead}
 use Rattle.form.specs.declared.sides.Side.{Side}
 use Rattle.form.specs.Records.{permits, instanceParts}
-use Rattle.sweep.specs.Pass.{ArePlaces}
+use Rattle.sweep.specs.Pass.{elementAt, Inside, ArePlaces}
 use Rattle.sweep.specs.declared.Places.{Places}
 use Rattle.faults.specs.declared.Fault.{Fault}
 use Rattle.faults.specs.declared.View.{View}
 use Rattle.faults.specs.declared.lives.Held.{Held}
+use Rattle.faults.specs.declared.untils.Writer.{Writer}
 
 -- ---- what a search has at hand
 
@@ -94,10 +95,44 @@ clashing a b =
     false)
     false
 
--- no value of the first n instances of task k clashes with this one
-unfoldable pub apartFrom : Table → Schedule → ℕ → Held → ℕ → ℕ → Bool
-apartFrom tab E s held k n = every n (λ i. not (clashing (heldOf tab E (by s k i)) held))
+-- none of the first n values clashes with this one
+unfoldable pub apartFrom : (ℕ → Held) → Held → ℕ → Bool
+apartFrom values held n = every n (λ i. not (clashing (values i) held))
 
 -- no value of an earlier WI does
 unfoldable pub apartFromEarlier : Table → Grid → Schedule → ℕ → Held → ℕ → ℕ → Bool
-apartFromEarlier tab grid E s held k i = every k (λ l. apartFrom tab E s held l (recordsIn tab grid Side.Writers s l)) && apartFrom tab E s held k i
+apartFromEarlier tab grid E s held k i =
+    every k (λ l. apartFrom (λ j. heldOf tab E (by s l j)) held (recordsIn tab grid Side.Writers s l)) && apartFrom (λ j. heldOf tab E (by s k j)) held i
+
+-- ---- lives that are kept
+
+-- the ends of the lives of the signal's first n WI stand at their numbers
+pub record KeptBelow (v : View) (grid : Grid) (n : ℕ) (untils : List ℕ) : Type 0 where
+  pub size : length untils ≡ mostInstances
+  pub ends : (k i : ℕ) → Has v grid Side.Writers k i → writersBelow (viewTable v grid) (v .signal) k + i < n → getD untils (writersBelow (viewTable v grid) (v .signal) k + i) 0 ≡ until (viewTable v grid) (by (v .signal) k i)
+
+-- those of all
+abbrev pub Kept : View → Grid → List ℕ → Type 0
+Kept v grid untils = (k i : ℕ) → Has v grid Side.Writers k i → getD untils (writersBelow (viewTable v grid) (v .signal) k + i) 0 ≡ until (viewTable v grid) (by (v .signal) k i)
+
+-- only 22 asks for them
+abbrev pub KeptFor : Side → View → Grid → List ℕ → Type 0
+KeptFor Side.Writers v grid untils = Kept v grid untils
+KeptFor Side.Readers v grid untils = Unit {0}
+
+-- the WI of task k, by the places of the signal
+abbrev pub writerOf : View → ℕ → Writer
+writerOf v k = record {
+  first = getD (v .places .writers) k 0;
+  number = (getD (v .places .writers) k 0 - getD (v .places .writers) 0 0) / 7;
+  period = taskOf (v .tasks) k .period;
+  start = taskOf (v .tasks) k .start;
+}
+
+-- the value of instance i of a writer
+abbrev pub heldAt : Writer → List ℕ → List ℕ → ℕ → Held
+heldAt w untils bytes i = record { element = elementAt bytes (w .first) i; from = i * w .period + w .start; until = getD untils (w .number + i) 0 }
+
+-- it has an element, and its number and its opening are in bounds
+abbrev pub InReach : Writer → List ℕ → ℕ → Type 0
+InReach w bytes i = Inside bytes (w .first) i × (w .number + i < mostInstances) × (i * w .period + w .start ≤ longest)

@@ -2,6 +2,7 @@
 mod lives;
 mod readers;
 mod search;
+mod untils;
 
 pub use search::first_fault;
 

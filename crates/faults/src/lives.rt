@@ -1,6 +1,9 @@
 // 22: a value that has the element of an earlier one while both are live.
 use crate::View;
 use crate::search::records_of;
+use crate::untils::MOST_WRITTEN;
+use crate::untils::Writer;
+use crate::untils::writer_of;
 use form::Side;
 use rules::CARRIED_ELEMENT;
 use rules::MOST_SIGNALS;
@@ -8,12 +11,12 @@ use rules::MOST_TASKS;
 use signals::until;
 use sweep::element_at;
 ghost use mathlib.Core.Path.{_≡_};
-ghost use Prim.Native.Nat.{_≤_, _<_};
-ghost use Rattle.rules.specs.Values.{carried, by};
+ghost use Prim.Native.Nat.{ℕ, _<_};
+ghost use Rattle.rules.specs.Values.{carried};
 ghost use Rattle.rules.specs.Bytes.{wi};
 ghost use Rattle.rules.specs.Answers.{sharing};
 ghost use Rattle.form.specs.declared.sides.Side.{Side};
-ghost use Rattle.faults.specs.Faults.{viewTable, viewSchedule, Seen, Has, recordsIn, heldOf, clashing, apartFrom, apartFromEarlier};
+ghost use Rattle.faults.specs.Faults.{viewTable, viewSchedule, Seen, Has, Kept, InReach, heldAt, heldOf, clashing, apartFrom, apartFromEarlier};
 
 // The element of a value, and its life.
 pub struct Held {
@@ -47,43 +50,31 @@ fn carried_value(view: View, grid: &[[u8; MOST_SIGNALS]; MOST_TASKS], schedule: 
 }
 
 // The value of a writer's instance.
-fn written(
-    view: View,
-    grid: &[[u8; MOST_SIGNALS]; MOST_TASKS],
-    task: usize,
-    instance: u32,
-    schedule: &[u8],
-) -> Held
-    requires { ⌜ Seen view (now grid) (now schedule) × Has view (now grid) Side.Writers task instance ⌝ }
-    ensures { λ r. ⌜ r ≡ heldOf (viewTable view (now (grid .entry))) (viewSchedule view (now (grid .entry)) (now (schedule .entry))) (by (view .signal) task instance) ⌝ }
+fn written(writer: Writer, untils: &[u32; MOST_WRITTEN], instance: u32, schedule: &[u8]) -> Held
+    requires { ⌜ InReach writer (now schedule) instance ⌝ }
+    ensures { λ r. ⌜ r ≡ heldAt writer (now (untils .entry)) (now (schedule .entry)) instance ⌝ }
 {
-    let tasks = view.tasks;
-    let writer = tasks.list[task];
-    let places = view.places;
-    let from = instance * writer.period + writer.start;
-    let published = instance * writer.period + writer.end;
     Held {
-        element: element_at(schedule, places.writers[task], instance),
-        from: from,
-        until: until(tasks, grid, view.signal, view.hyper, published),
+        element: element_at(schedule, writer.first, instance),
+        from: instance * writer.period + writer.start,
+        until: untils[writer.number + instance as usize],
     }
 }
 
-// No value of the task's first `records` instances clashes with this one.
+// No value of the writer's first `records` instances clashes with this one.
 fn apart_from(
-    view: View,
-    grid: &[[u8; MOST_SIGNALS]; MOST_TASKS],
-    task: usize,
+    writer: Writer,
+    untils: &[u32; MOST_WRITTEN],
     records: u32,
     held: Held,
     schedule: &[u8],
 ) -> bool
-    requires { ⌜ Seen view (now grid) (now schedule) × (task < view .tasks .count) × (records ≤ recordsIn (viewTable view (now grid)) (now grid) Side.Writers (view .signal) task) ⌝ }
-    ensures { λ r. ⌜ r ≡ apartFrom (viewTable view (now (grid .entry))) (viewSchedule view (now (grid .entry)) (now (schedule .entry))) (view .signal) held task records ⌝ }
+    requires { ⌜ ((i : ℕ) → i < records → InReach writer (now schedule) i) ⌝ }
+    ensures { λ r. ⌜ r ≡ apartFrom (heldAt writer (now (untils .entry)) (now (schedule .entry))) held records ⌝ }
 {
     let mut i: u32 = 0;
     while i < records {
-        if clashes(written(view, grid, task, i, schedule), held) {
+        if clashes(written(writer, untils, i, schedule), held) {
             return false;
         }
         i += 1;
@@ -95,38 +86,40 @@ fn apart_from(
 fn apart_from_earlier(
     view: View,
     grid: &[[u8; MOST_SIGNALS]; MOST_TASKS],
+    untils: &[u32; MOST_WRITTEN],
     task: usize,
     instance: u32,
     held: Held,
     schedule: &[u8],
 ) -> bool
-    requires { ⌜ Seen view (now grid) (now schedule) × Has view (now grid) Side.Writers task instance ⌝ }
+    requires { ⌜ Seen view (now grid) (now schedule) × Kept view (now grid) (now untils) × Has view (now grid) Side.Writers task instance ⌝ }
     ensures { λ r. ⌜ r ≡ apartFromEarlier (viewTable view (now (grid .entry))) (now (grid .entry)) (viewSchedule view (now (grid .entry)) (now (schedule .entry))) (view .signal) held task instance ⌝ }
 {
     let mut k: usize = 0;
     while k < task {
         let records = records_of(view, grid, Side::Writers, k);
-        if !apart_from(view, grid, k, records, held, schedule) {
+        if !apart_from(writer_of(view, k), untils, records, held, schedule) {
             return false;
         }
         k += 1;
     }
-    apart_from(view, grid, task, instance, held, schedule)
+    apart_from(writer_of(view, task), untils, instance, held, schedule)
 }
 
 pub fn shares(
     view: View,
     grid: &[[u8; MOST_SIGNALS]; MOST_TASKS],
+    untils: &[u32; MOST_WRITTEN],
     task: usize,
     instance: u32,
     schedule: &[u8],
 ) -> bool
-    requires { ⌜ Seen view (now grid) (now schedule) × Has view (now grid) Side.Writers task instance ⌝ }
+    requires { ⌜ Seen view (now grid) (now schedule) × Kept view (now grid) (now untils) × Has view (now grid) Side.Writers task instance ⌝ }
     ensures { λ r. ⌜ r ≡ sharing (viewTable view (now (grid .entry))) (viewSchedule view (now (grid .entry)) (now (schedule .entry))) (wi (view .signal) task instance) ⌝ }
 {
-    let held = written(view, grid, task, instance, schedule);
+    let held = written(writer_of(view, task), untils, instance, schedule);
     if clashes(carried_value(view, grid, schedule), held) {
         return true;
     }
-    !apart_from_earlier(view, grid, task, instance, held, schedule)
+    !apart_from_earlier(view, grid, untils, task, instance, held, schedule)
 }

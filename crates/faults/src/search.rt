@@ -3,6 +3,8 @@ use crate::Fault;
 use crate::View;
 use crate::lives::shares;
 use crate::readers::sent_wrong;
+use crate::untils::MOST_WRITTEN;
+use crate::untils::untils_for;
 use form::Side;
 use form::permitted;
 use rules::ELEMENT_AT;
@@ -24,7 +26,7 @@ ghost use Rattle.form.specs.Records.{useOf, instanceParts};
 ghost use Rattle.form.specs.Form.{walked};
 ghost use Rattle.sweep.specs.Pass.{longestBytes};
 ghost use Rattle.faults.specs.declared.Fault.{Fault};
-ghost use Rattle.faults.specs.Faults.{readTable, Accepted, viewTable, viewSchedule, Seen, Has, firstOf, recordsIn, sideOf, wrongOf, seek, placed};
+ghost use Rattle.faults.specs.Faults.{readTable, Accepted, viewTable, viewSchedule, Seen, Has, KeptFor, firstOf, recordsIn, sideOf, wrongOf, seek, placed};
 
 // The first wrong record: Side::Readers for 21, Side::Writers for 22.
 pub fn first_fault(
@@ -72,10 +74,11 @@ fn signal_fault(
     requires { ⌜ Seen view (now grid) (now schedule) ⌝ }
     ensures { λ r. ⌜ r ≡ walked (seek (viewTable view (now (grid .entry))) (wrongOf (viewTable view (now (grid .entry))) (viewSchedule view (now (grid .entry)) (now (schedule .entry))) side)) (sideOf (viewTable view (now (grid .entry))) (now (grid .entry)) side (view .tasks .count) (view .signal)) Fault.Nowhere ⌝ }
 {
+    let untils = untils_for(view, grid, side);
     let tasks = view.tasks;
     let mut k: usize = 0;
     while k < tasks.count {
-        match task_fault(view, grid, side, k, schedule) {
+        match task_fault(view, grid, &untils, side, k, schedule) {
             Fault::At(at) => {
                 return Fault::At(at);
             }
@@ -90,18 +93,19 @@ fn signal_fault(
 fn task_fault(
     view: View,
     grid: &[[u8; MOST_SIGNALS]; MOST_TASKS],
+    untils: &[u32; MOST_WRITTEN],
     side: Side,
     task: usize,
     schedule: &[u8],
 ) -> Fault
-    requires { ⌜ Seen view (now grid) (now schedule) × (task < view .tasks .count) ⌝ }
+    requires { ⌜ Seen view (now grid) (now schedule) × KeptFor side view (now grid) (now untils) × (task < view .tasks .count) ⌝ }
     ensures { λ r. ⌜ r ≡ walked (seek (viewTable view (now (grid .entry))) (wrongOf (viewTable view (now (grid .entry))) (viewSchedule view (now (grid .entry)) (now (schedule .entry))) side)) (instanceParts side (view .signal) task (recordsIn (viewTable view (now (grid .entry))) (now (grid .entry)) side (view .signal) task)) Fault.Nowhere ⌝ }
 {
     let records = records_of(view, grid, side, task);
     let places = view.places;
     let mut i: u32 = 0;
     while i < records {
-        if is_wrong(view, grid, side, task, i, schedule) {
+        if is_wrong(view, grid, untils, side, task, i, schedule) {
             return Fault::At(start_of(places, side, task, i));
         }
         i += 1;
@@ -112,17 +116,18 @@ fn task_fault(
 fn is_wrong(
     view: View,
     grid: &[[u8; MOST_SIGNALS]; MOST_TASKS],
+    untils: &[u32; MOST_WRITTEN],
     side: Side,
     task: usize,
     instance: u32,
     schedule: &[u8],
 ) -> bool
-    requires { ⌜ Seen view (now grid) (now schedule) × Has view (now grid) side task instance ⌝ }
+    requires { ⌜ Seen view (now grid) (now schedule) × KeptFor side view (now grid) (now untils) × Has view (now grid) side task instance ⌝ }
     ensures { λ r. ⌜ r ≡ wrongOf (viewTable view (now (grid .entry))) (viewSchedule view (now (grid .entry)) (now (schedule .entry))) side (useOf side (view .signal) task instance) ⌝ }
 {
     match side {
         Side::Readers => sent_wrong(view, grid, task, instance, schedule),
-        Side::Writers => shares(view, grid, task, instance, schedule),
+        Side::Writers => shares(view, grid, untils, task, instance, schedule),
     }
 }
 

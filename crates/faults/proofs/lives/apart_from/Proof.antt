@@ -5,28 +5,23 @@ use Prim.Native.Nat.{ℕ, _-_, _≤_, _<_}
 use native.Mathlib.Omega.{arith}
 use borrow.Author.Needs.{needs}
 use borrow.Author.Count.{below-none, below-more}
-use Rattle.rules.specs.Values.{by}
-use Rattle.form.specs.declared.sides.Side.{Side}
 use Rattle.table.proofs.Clashes.{every-fails, every-holds}
-use Rattle.faults.specs.Faults.{viewTable, viewSchedule, heldOf, clashing, apartFrom}
-use Rattle.faults.proofs.Viewed.{has-of, same-clash}
+use Rattle.faults.specs.Faults.{heldAt, clashing, apartFrom}
+use Rattle.faults.proofs.Viewed.{same-clash}
 use Rattle.faults.proofs.lives.apart_from.Statement.{statement}
 use Rattle.faults.proofs.lives.apart_from.Tie as tie
 
 abbrev Inv-loop : tie.InvT-loop
-Inv-loop view grid task records held schedule i₀ i =
-    (i ≤ records) × ((j : ℕ) → j < i → not (clashing (heldOf (viewTable view grid) (viewSchedule view grid schedule) (by (view .signal) task j)) held) ≡ true)
+Inv-loop writer untils records held schedule i₀ i = (i ≤ records) × ((j : ℕ) → j < i → not (clashing (heldAt writer untils schedule j) held) ≡ true)
 
 abbrev μ-loop : tie.MeasureT-loop
-μ-loop view grid task records held schedule i₀ i = records - i
+μ-loop writer untils records held schedule i₀ i = records - i
 
 loop-holds : tie.Need-loop-holds Inv-loop μ-loop
 loop-holds c = (search needs, below-none _)
 
 written-requires : tie.Need-written-requires Inv-loop μ-loop
-written-requires c κs =
-    let start = c .before .before .before in
-    (start .pre .0, has-of (start .args .view) (start .args .grid .now) Side.Writers _ _ (start .pre .1) (start .pre .2) (c .loop-test .taken))
+written-requires c κs = c .before .before .before .pre _ (c .loop-test .taken)
 
 returns : tie.Need-returns Inv-loop μ-loop
 unfolding apartFrom

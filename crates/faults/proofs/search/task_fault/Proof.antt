@@ -14,14 +14,14 @@ use Rattle.faults.proofs.search.task_fault.Statement.{statement}
 use Rattle.faults.proofs.search.task_fault.Tie as tie
 
 abbrev Inv-loop : tie.InvT-loop
-Inv-loop view grid side task schedule records places i₀ i =
+Inv-loop view grid untils side task schedule records places i₀ i =
     (i ≤ records) × (Fault.Nowhere ≡ walked (seek (viewTable view grid) (wrongOf (viewTable view grid) (viewSchedule view grid schedule) side)) (instanceParts side (view .signal) task i) Fault.Nowhere)
 
 abbrev μ-loop : tie.MeasureT-loop
-μ-loop view grid side task schedule records places i₀ i = records - i
+μ-loop view grid untils side task schedule records places i₀ i = records - i
 
 records-of-requires : tie.Need-records-of-requires Inv-loop μ-loop
-records-of-requires c κs = let start = c .before in ((start .args .schedule .now, start .pre .0), start .pre .1)
+records-of-requires c κs = let start = c .before in ((start .args .schedule .now, start .pre .0), start .pre .2)
 
 loop-holds : tie.Need-loop-holds Inv-loop μ-loop
 loop-holds c = (omega arith, walked-none _ _ _)
@@ -30,16 +30,16 @@ is-wrong-requires : tie.Need-is-wrong-requires Inv-loop μ-loop
 is-wrong-requires c κs =
     let counted = c .before .before .before in
     let start = counted .before .before in
-    (start .pre .0, has-of (start .args .view) (start .args .grid .now) (start .args .side) _ _ (start .pre .1) (omega (arith, counted .records-of .ensures)) (c .loop-test .taken))
+    (start .pre .0, start .pre .1, has-of (start .args .view) (start .args .grid .now) (start .args .side) _ _ (start .pre .2) (omega (arith, counted .records-of .ensures)) (c .loop-test .taken))
 
 start-of-requires : tie.Need-start-of-requires Inv-loop μ-loop
 start-of-requires c κs =
     let looped = c .before .before in
     let counted = looped .before .before .before in
     let start = counted .before .before in
-    let has = has-of (start .args .view) (start .args .grid .now) (start .args .side) _ _ (start .pre .1) (omega (arith, counted .records-of .ensures)) (looped .loop-test .taken) in
+    let has = has-of (start .args .view) (start .args .grid .now) (start .args .side) _ _ (start .pre .2) (omega (arith, counted .records-of .ensures)) (looped .loop-test .taken) in
     let at = place-is _ _ _ (start .pre .0) (start .args .side) _ _ has in
-    (omega (arith, start .pre .1, start .pre .0 .fits .few-tasks), omega (arith, at .0), omega (arith, at .0, at .2))
+    (omega (arith, start .pre .2, start .pre .0 .fits .few-tasks), omega (arith, at .0), omega (arith, at .0, at .2))
 
 returns : tie.Need-returns Inv-loop μ-loop
 returns c =
@@ -47,7 +47,7 @@ returns c =
     let looped = said .before in
     let counted = looped .before .before .before in
     let start = counted .before .before in
-    let has = has-of (start .args .view) (start .args .grid .now) (start .args .side) _ _ (start .pre .1) (omega (arith, counted .records-of .ensures)) (looped .loop-test .taken) in
+    let has = has-of (start .args .view) (start .args .grid .now) (start .args .side) _ _ (start .pre .2) (omega (arith, counted .records-of .ensures)) (looped .loop-test .taken) in
     let at = place-is _ _ _ (start .pre .0) (start .args .side) _ _ has in
     all-walked _ _ (start .args .side) (start .args .view .signal) (start .args .task)
     (walked-stopped _ (λ i. useOf (start .args .side) (start .args .view .signal) (start .args .task) i ∷ []) _ _ _ (Fault.At (c .start-of .result)) (λ x. refl) (looped .loop-test .taken)
