@@ -1,5 +1,6 @@
 -- The machine's calls on its state, and what holds of them.
 pub mod Calls
+pub mod Lists
 pub mod Fit
 pub mod Simulates
 pub mod Started

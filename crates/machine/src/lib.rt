@@ -1,10 +1,11 @@
 // The machine that runs a table with a schedule tick by tick. After loading it needs neither of them again.
+pub mod lists;
+
 use answers::DONE;
 use answers::number;
 use records::grid::read_grid;
 use rows::CELLS;
 use rows::NONE;
-use rows::Place;
 use rules::Answer;
 use rules::MOST_SIGNALS;
 use rules::MOST_TASKS;
@@ -104,57 +105,31 @@ impl Machine {
     pub fn step(self) -> Stepped
         ensures { λ r. ⌜ r ≡ stepOf self ⌝ }
     {
-        // List by list, here as in a read and a write: a machine handed on whole would be copied, 12 KB for each call.
-        if !rows::is_fit(
+        let mut tick = self.tick;
+        let mut held = self.held;
+        let mut store = self.store;
+        let answer = lists::step(
             self.loaded,
             self.hyper,
-            self.tick,
+            &mut tick,
+            &self.periods,
+            &self.starts,
+            &self.ends,
             &self.counts,
             &self.reads,
             &self.writes,
             &self.uses,
-            &self.carried,
-            &self.held,
-        ) {
-            return Stepped {
-                answer: Answer::Unfit,
-                machine: self,
-            };
-        }
-        let mut held = self.held;
-        let mut store = self.store;
-        let mut tick = self.tick + 1;
-        rows::publish_all(
-            &mut held,
-            &self.periods,
-            &self.ends,
-            &self.counts,
-            &self.writes,
-            &self.uses,
-            self.tick,
-        );
-        if self.hyper <= tick {
-            rows::carry_all(&mut store, &self.carried, &held);
-            let carried = self.carried;
-            held = carried;
-            tick = 0;
-        }
-        rows::open_all(
-            &mut store,
-            &self.periods,
-            &self.starts,
-            &self.counts,
-            &self.writes,
-            &self.uses,
             &self.defaults,
-            tick,
+            &self.carried,
+            &mut held,
+            &mut store,
         );
         let mut next = self;
         next.tick = tick;
         next.held = held;
         next.store = store;
         Stepped {
-            answer: Answer::Done(0),
+            answer: answer,
             machine: next,
         }
     }
@@ -162,96 +137,52 @@ impl Machine {
     pub fn read(self, task: usize, signal: usize) -> WordRead
         ensures { λ r. ⌜ r ≡ readOf self task signal ⌝ }
     {
-        if !rows::is_fit(
+        lists::read(
             self.loaded,
             self.hyper,
             self.tick,
+            &self.periods,
+            &self.starts,
+            &self.ends,
             &self.counts,
             &self.reads,
             &self.writes,
             &self.uses,
             &self.carried,
             &self.held,
-        ) {
-            return WordRead {
-                answer: Answer::Unfit,
-                word: 0,
-            };
-        }
-        match rows::locate(
-            &self.periods,
-            &self.starts,
-            &self.ends,
-            &self.counts,
-            &self.reads,
-            &self.uses,
-            self.tick,
+            &self.store,
             task,
             signal,
-        ) {
-            Place::At(position) => WordRead {
-                answer: Answer::Done(0),
-                word: rows::load(&self.store, position),
-            },
-            Place::NoAccess => WordRead {
-                answer: Answer::NoAccess,
-                word: 0,
-            },
-            Place::Outside => WordRead {
-                answer: Answer::Outside,
-                word: 0,
-            },
-        }
+        )
     }
 
     pub fn write(self, task: usize, signal: usize, word: u32) -> Stepped
         ensures { λ r. ⌜ r ≡ writeOf self task signal word ⌝ }
     {
-        if !rows::is_fit(
+        let mut store = self.store;
+        let answer = lists::write(
             self.loaded,
             self.hyper,
             self.tick,
+            &self.periods,
+            &self.starts,
+            &self.ends,
             &self.counts,
             &self.reads,
             &self.writes,
             &self.uses,
             &self.carried,
             &self.held,
-        ) {
-            return Stepped {
-                answer: Answer::Unfit,
-                machine: self,
-            };
-        }
-        match rows::locate(
-            &self.periods,
-            &self.starts,
-            &self.ends,
-            &self.counts,
-            &self.writes,
-            &self.uses,
-            self.tick,
+            &mut store,
             task,
             signal,
-        ) {
-            Place::At(position) => {
-                let mut store = self.store;
-                rows::save(&mut store, position, word);
-                let mut next = self;
-                next.store = store;
-                Stepped {
-                    answer: Answer::Done(0),
-                    machine: next,
-                }
-            }
-            Place::NoAccess => Stepped {
-                answer: Answer::NoAccess,
-                machine: self,
-            },
-            Place::Outside => Stepped {
-                answer: Answer::Outside,
-                machine: self,
-            },
+            word,
+        );
+        let mut next = self;
+        next.store = store;
+        Stepped {
+            answer: answer,
+            machine: next,
         }
     }
 }

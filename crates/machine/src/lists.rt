@@ -1,0 +1,180 @@
+// A step, a read and a write over the machine's lists, lent where they lie: nothing of the machine is copied.
+use crate::WordRead;
+use rows::CELLS;
+use rows::Place;
+use rules::Answer;
+use rules::MOST_SIGNALS;
+use rules::MOST_TASKS;
+use rules::MOST_USES;
+use rules::WORDS;
+ghost use Prim.Native.Nat.{ℕ};
+ghost use mathlib.Core.Path.{_≡_};
+ghost use mathlib.Core.List.{List};
+ghost use Rattle.machine.specs.Calls.{at, answered, stepOf, readOf, writeOf};
+ghost use Rattle.machine.specs.Lists.{ofLists};
+
+pub fn step<'a>(
+    loaded: bool,
+    hyper: u32,
+    tick: &mut u32,
+    periods: &'a [u32; MOST_TASKS],
+    starts: &'a [u32; MOST_TASKS],
+    ends: &'a [u32; MOST_TASKS],
+    counts: &'a [u32; MOST_TASKS],
+    reads: &'a [u16; CELLS],
+    writes: &'a [u16; CELLS],
+    uses: &'a [u16; MOST_USES],
+    defaults: &'a [u32; MOST_SIGNALS],
+    carried: &'a [u16; MOST_SIGNALS],
+    held: &mut [u16; MOST_SIGNALS],
+    store: &mut [u32; WORDS],
+) -> Answer
+    ensures { λ r. ⌜ (let m = ofLists loaded hyper (now (tick .entry)) (now (periods .entry)) (now (starts .entry)) (now (ends .entry)) (now (counts .entry)) (now (reads .entry)) (now (writes .entry)) (now (uses .entry)) (now (defaults .entry)) (now (carried .entry)) (now (held .entry)) (now (store .entry)) in answered r (at m (now (tick .exit)) (now (held .exit)) (now (store .exit))) ≡ stepOf m) ⌝ }
+{
+    if !rows::is_fit(
+        loaded,
+        hyper,
+        *tick,
+        counts,
+        reads,
+        writes,
+        uses,
+        carried,
+        held,
+    ) {
+        return Answer::Unfit;
+    }
+    rows::publish_all(held, periods, ends, counts, writes, uses, *tick);
+    *tick = *tick + 1;
+    if hyper <= *tick {
+        rows::carry_all(store, carried, held);
+        *held = *carried;
+        *tick = 0;
+    }
+    rows::open_all(
+        store,
+        periods,
+        starts,
+        counts,
+        writes,
+        uses,
+        defaults,
+        *tick,
+    );
+    Answer::Done(0)
+}
+
+// The machine's defaults are not looked at, here and in a write: the same holds whatever they are.
+pub fn read<'a>(
+    loaded: bool,
+    hyper: u32,
+    tick: u32,
+    periods: &'a [u32; MOST_TASKS],
+    starts: &'a [u32; MOST_TASKS],
+    ends: &'a [u32; MOST_TASKS],
+    counts: &'a [u32; MOST_TASKS],
+    reads: &'a [u16; CELLS],
+    writes: &'a [u16; CELLS],
+    uses: &'a [u16; MOST_USES],
+    carried: &'a [u16; MOST_SIGNALS],
+    held: &'a [u16; MOST_SIGNALS],
+    store: &'a [u32; WORDS],
+    task: usize,
+    signal: usize,
+) -> WordRead
+    ensures { λ r. ⌜ ((defaults : List ℕ) → r ≡ readOf (ofLists loaded hyper tick (now (periods .entry)) (now (starts .entry)) (now (ends .entry)) (now (counts .entry)) (now (reads .entry)) (now (writes .entry)) (now (uses .entry)) defaults (now (carried .entry)) (now (held .entry)) (now (store .entry))) task signal) ⌝ }
+{
+    if !rows::is_fit(
+        loaded,
+        hyper,
+        tick,
+        counts,
+        reads,
+        writes,
+        uses,
+        carried,
+        held,
+    ) {
+        return WordRead {
+            answer: Answer::Unfit,
+            word: 0,
+        };
+    }
+    match rows::locate(
+        periods,
+        starts,
+        ends,
+        counts,
+        reads,
+        uses,
+        tick,
+        task,
+        signal,
+    ) {
+        Place::At(position) => WordRead {
+            answer: Answer::Done(0),
+            word: rows::load(store, position),
+        },
+        Place::NoAccess => WordRead {
+            answer: Answer::NoAccess,
+            word: 0,
+        },
+        Place::Outside => WordRead {
+            answer: Answer::Outside,
+            word: 0,
+        },
+    }
+}
+
+pub fn write<'a>(
+    loaded: bool,
+    hyper: u32,
+    tick: u32,
+    periods: &'a [u32; MOST_TASKS],
+    starts: &'a [u32; MOST_TASKS],
+    ends: &'a [u32; MOST_TASKS],
+    counts: &'a [u32; MOST_TASKS],
+    reads: &'a [u16; CELLS],
+    writes: &'a [u16; CELLS],
+    uses: &'a [u16; MOST_USES],
+    carried: &'a [u16; MOST_SIGNALS],
+    held: &'a [u16; MOST_SIGNALS],
+    store: &mut [u32; WORDS],
+    task: usize,
+    signal: usize,
+    word: u32,
+) -> Answer
+    ensures { λ r. ⌜ ((defaults : List ℕ) → let m = ofLists loaded hyper tick (now (periods .entry)) (now (starts .entry)) (now (ends .entry)) (now (counts .entry)) (now (reads .entry)) (now (writes .entry)) (now (uses .entry)) defaults (now (carried .entry)) (now (held .entry)) (now (store .entry)) in answered r (at m tick (now (held .entry)) (now (store .exit))) ≡ writeOf m task signal word) ⌝ }
+{
+    if !rows::is_fit(
+        loaded,
+        hyper,
+        tick,
+        counts,
+        reads,
+        writes,
+        uses,
+        carried,
+        held,
+    ) {
+        return Answer::Unfit;
+    }
+    match rows::locate(
+        periods,
+        starts,
+        ends,
+        counts,
+        writes,
+        uses,
+        tick,
+        task,
+        signal,
+    ) {
+        Place::At(position) => {
+            rows::save(store, position, word);
+            Answer::Done(0)
+        }
+        Place::NoAccess => Answer::NoAccess,
+        Place::Outside => Answer::Outside,
+    }
+}
