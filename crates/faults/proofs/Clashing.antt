@@ -22,8 +22,8 @@ use Rattle.table.proofs.Clashes.{every-fails, every-holds}
 use Rattle.faults.specs.declared.View.{View}
 use Rattle.faults.specs.declared.lives.Held.{Held}
 use Rattle.faults.specs.declared.untils.Writer.{Writer}
-use Rattle.faults.specs.Faults.{viewTable, viewSchedule, Seen, Has, recordsIn, heldOf, clashing, apartFrom, apartFromEarlier, Kept, writerOf, heldAt}
-use Rattle.faults.proofs.Viewed.{has-of, has-below}
+use Rattle.faults.specs.Faults.{viewTable, viewSchedule, Seen, Has, recordsIn, heldOf, clashing, apartFrom, apartFromEarlier, Kept, writerOf, heldAt, carriedIn}
+use Rattle.faults.proofs.Viewed.{has-of, has-below, held-is}
 use Rattle.faults.proofs.Numbered.{value-is}
 
 every-same : (n : ℕ) (p q : ℕ → Bool) → ((k : ℕ) → k < n → p k ≡ q k) → every n p ≡ every n q
@@ -112,9 +112,9 @@ module _ (v : View) (grid : Grid) (bytes : List ℕ) (K : Seen v grid bytes) (k 
   unfolding same
   sharing-is = ap₂ (λ (a b : Bool). a || not b) (clash-is tab E (carried s) (by s k i) refl) earlier-is
 
-  module _ {held first : Held} {b : Bool} (e : held ≡ own) (f : first ≡ heldOf tab E (carried s)) (q : b ≡ clashing first held) where
+  module _ {held first : Held} {b : Bool} (e : held ≡ own) (untils : List ℕ) (A : Kept v grid untils) (f : first ≡ carriedIn untils) (q : b ≡ clashing first held) where
     carried-said : b ≡ clashing (heldOf tab E (carried s)) own
-    carried-said = q ∙ ap₂ clashing f e
+    carried-said = q ∙ ap₂ clashing (f ∙ held-is 0 refl (A .first)) e
 
     pub shares-carried : b ≡ true → true ≡ sharing tab E (wi s k i)
     shares-carried t = sym (sharing-is ∙ or-left _ _ (sym carried-said ∙ t))

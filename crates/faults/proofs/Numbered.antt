@@ -10,7 +10,7 @@ use lib.Seq.{getD-set-same, getD-set-other}
 use borrow.Author.Tests.{eqb-true, eqb-false}
 use Rattle.rules.specs.Words.{total, times}
 use Rattle.rules.specs.Windows.{Table, instances}
-use Rattle.rules.specs.Values.{by, until}
+use Rattle.rules.specs.Values.{carried, by, until}
 use Rattle.rules.specs.Table.{mostTasks, mostInstances, Fits}
 use Rattle.rules.specs.Bytes.{writersBelow}
 use Rattle.rules.specs.Reading.{Grid}
@@ -21,7 +21,7 @@ use Rattle.sweep.proofs.Inspected.{total-within}
 use Rattle.faults.specs.declared.View.{View}
 use Rattle.faults.specs.declared.lives.Held.{Held}
 use Rattle.faults.specs.declared.untils.Writer.{Writer}
-use Rattle.faults.specs.Faults.{viewTable, viewSchedule, Seen, Has, recordsIn, heldOf, KeptBelow, Kept, KeptFor, writerOf, heldAt, InReach}
+use Rattle.faults.specs.Faults.{viewTable, viewSchedule, Seen, Has, recordsIn, heldOf, mostValues, KeptBelow, Kept, KeptFor, writerOf, heldAt, InReach}
 use Rattle.faults.proofs.Viewed.{has-below, none-below, place-is, places-apart, written-is, within, held-is}
 
 module _ (v : View) (grid : Grid) where
@@ -61,12 +61,17 @@ module _ (v : View) (grid : Grid) where
   unfolding writersBelow total recordsIn
   numbers-more k = refl
 
-  pub kept-none : (untils : List ℕ) → length untils ≡ mostInstances → KeptBelow v grid (writersBelow tab s 0) untils
-  kept-none untils e = record { size = e; ends = λ k i H h. absurd (omega (arith, none-below tab s)) }
+  pub kept-none : (untils : List ℕ) → length untils ≡ mostValues → {u : ℕ} → u ≡ until tab (carried s) → KeptBelow v grid (writersBelow tab s 0) (set untils mostInstances u)
+  kept-none untils q {u} e = record {
+    size = length-set untils mostInstances u ∙ q;
+    first = getD-set-same untils mostInstances u 0 (omega arith) ∙ e;
+    ends = λ k i H h. absurd (omega (arith, none-below tab s));
+  }
 
   pub kept-more : Fits tab → (untils : List ℕ) (k i : ℕ) {n u : ℕ} → Has v grid Side.Writers k i → n ≡ number k i → u ≡ until tab (by s k i) → KeptBelow v grid (number k i) untils → KeptBelow v grid (number k (i + 1)) (set untils n u)
   kept-more F untils k i {n} {u} H q e A = record {
     size = length-set untils n u ∙ A .size;
+    first = getD-set-other untils n mostInstances u 0 (λ x. let z : ⊥ = omega (arith, number-low F k i H) in z) ∙ A .first;
     ends = λ l j L m. split (eqb (number l j) n)
         (λ x. let y = eqb-true (number l j) n x in
         let (a, b) = one-number l j k i L H (y ∙ q) in
@@ -76,7 +81,7 @@ module _ (v : View) (grid : Grid) where
   }
 
   pub kept-all : (untils : List ℕ) → KeptBelow v grid (writersBelow tab s (v .tasks .count)) untils → Kept v grid untils
-  kept-all untils A k i H = A .ends k i H (before k i (v .tasks .count) H (H .0))
+  kept-all untils A = record { first = A .first; ends = λ k i H. A .ends k i H (before k i (v .tasks .count) H (H .0)) }
 
   -- what each side asks for
   pub kept-readers : (untils : List ℕ) {side : Side} → side ≡ Side.Readers → KeptFor side v grid untils
@@ -106,4 +111,4 @@ module _ (v : View) (grid : Grid) (bytes : List ℕ) (K : Seen v grid bytes) (k 
   pub value-is : (untils : List ℕ) → Kept v grid untils → (i : ℕ) → Has v grid Side.Writers k i → heldAt w untils bytes i ≡ heldOf (viewTable v grid) (viewSchedule v grid bytes) (by (v .signal) k i)
   value-is untils A i H =
       ap (λ (w : Writer). heldAt w untils bytes i) e
-      ∙ held-is _ (written-is v grid bytes K k i H) (ap (λ n. getD untils (n + i) 0) (sym (ap (λ (w : Writer). w .number) e) ∙ number-is (H .0)) ∙ A k i H)
+      ∙ held-is _ (written-is v grid bytes K k i H) (ap (λ n. getD untils (n + i) 0) (sym (ap (λ (w : Writer). w .number) e) ∙ number-is (H .0)) ∙ A .ends k i H)

@@ -7,7 +7,7 @@ use lib.Dec.{eqb, ltb}
 use lib.ListN.{length, getD}
 use Rattle.rules.specs.Words.{gather, times, every, when}
 use Rattle.rules.specs.Windows.{Table, hyper, instances}
-use Rattle.rules.specs.Values.{Value, by, opening, until}
+use Rattle.rules.specs.Values.{Value, carried, by, opening, until}
 use Rattle.rules.specs.Table.{longest, mostInstances, Fits}
 use Rattle.rules.specs.Schedule.{Schedule, elementOf}
 use Rattle.rules.specs.Bytes.{Part, writersBelow, startOf, scheduleLength, scheduleIn}
@@ -106,14 +106,24 @@ apartFromEarlier tab grid E s held k i =
 
 -- ---- lives that are kept
 
--- the ends of the lives of the signal's first n WI stand at their numbers
-pub record KeptBelow (v : View) (grid : Grid) (n : ℕ) (untils : List ℕ) : Type 0 where
-  pub size : length untils ≡ mostInstances
-  pub ends : (k i : ℕ) → Has v grid Side.Writers k i → writersBelow (viewTable v grid) (v .signal) k + i < n → getD untils (writersBelow (viewTable v grid) (v .signal) k + i) 0 ≡ until (viewTable v grid) (by (v .signal) k i)
+abbrev pub mostValues : ℕ
+mostValues = mostInstances + 1
 
--- those of all
-abbrev pub Kept : View → Grid → List ℕ → Type 0
-Kept v grid untils = (k i : ℕ) → Has v grid Side.Writers k i → getD untils (writersBelow (viewTable v grid) (v .signal) k + i) 0 ≡ until (viewTable v grid) (by (v .signal) k i)
+module _ (v : View) (grid : Grid) where
+  -- where the end of a life is kept: by the number of its WI
+  abbrev pub endIn : List ℕ → ℕ → ℕ → ℕ
+  endIn untils k i = getD untils (writersBelow (viewTable v grid) (v .signal) k + i) 0
+
+  -- the ends of the carried value's life and of those of the signal's first n WI
+  pub record KeptBelow (n : ℕ) (untils : List ℕ) : Type 0 where
+    pub size : length untils ≡ mostValues
+    pub first : getD untils mostInstances 0 ≡ until (viewTable v grid) (carried (v .signal))
+    pub ends : (k i : ℕ) → Has v grid Side.Writers k i → writersBelow (viewTable v grid) (v .signal) k + i < n → endIn untils k i ≡ until (viewTable v grid) (by (v .signal) k i)
+
+  -- those of all
+  pub record Kept (untils : List ℕ) : Type 0 where
+    pub first : getD untils mostInstances 0 ≡ until (viewTable v grid) (carried (v .signal))
+    pub ends : (k i : ℕ) → Has v grid Side.Writers k i → endIn untils k i ≡ until (viewTable v grid) (by (v .signal) k i)
 
 -- only 22 asks for them
 abbrev pub KeptFor : Side → View → Grid → List ℕ → Type 0
@@ -133,6 +143,9 @@ writerOf v k = record {
 abbrev pub heldAt : Writer → List ℕ → List ℕ → ℕ → Held
 heldAt w untils bytes i = record { element = elementAt bytes (w .first) i; from = i * w .period + w .start; until = getD untils (w .number + i) 0 }
 
--- it has an element, and its number and its opening are in bounds
+abbrev pub carriedIn : List ℕ → Held
+carriedIn untils = record { element = 0; from = 0; until = getD untils mostInstances 0 }
+
+-- instance i has an element, and its number and its opening are in bounds
 abbrev pub InReach : Writer → List ℕ → ℕ → Type 0
 InReach w bytes i = Inside bytes (w .first) i × (w .number + i < mostInstances) × (i * w .period + w .start ≤ longest)

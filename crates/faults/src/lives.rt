@@ -1,22 +1,21 @@
 // 22: a value that has the element of an earlier one while both are live.
 use crate::View;
 use crate::search::records_of;
-use crate::untils::MOST_WRITTEN;
+use crate::untils::CARRIED_AT;
+use crate::untils::MOST_VALUES;
 use crate::untils::Writer;
 use crate::untils::writer_of;
 use form::Side;
 use rules::CARRIED_ELEMENT;
 use rules::MOST_SIGNALS;
 use rules::MOST_TASKS;
-use signals::until;
 use sweep::element_at;
 ghost use mathlib.Core.Path.{_≡_};
 ghost use Prim.Native.Nat.{ℕ, _<_};
-ghost use Rattle.rules.specs.Values.{carried};
 ghost use Rattle.rules.specs.Bytes.{wi};
 ghost use Rattle.rules.specs.Answers.{sharing};
 ghost use Rattle.form.specs.declared.sides.Side.{Side};
-ghost use Rattle.faults.specs.Faults.{viewTable, viewSchedule, Seen, Has, Kept, InReach, heldAt, heldOf, clashing, apartFrom, apartFromEarlier};
+ghost use Rattle.faults.specs.Faults.{viewTable, viewSchedule, Seen, Has, Kept, InReach, heldAt, carriedIn, clashing, apartFrom, apartFromEarlier};
 
 // The element of a value, and its life.
 pub struct Held {
@@ -37,20 +36,18 @@ fn clashes(a: Held, b: Held) -> bool
     b.from < a.until
 }
 
-fn carried_value(view: View, grid: &[[u8; MOST_SIGNALS]; MOST_TASKS], schedule: &[u8]) -> Held
-    requires { ⌜ Seen view (now grid) (now schedule) ⌝ }
-    ensures { λ r. ⌜ r ≡ heldOf (viewTable view (now (grid .entry))) (viewSchedule view (now (grid .entry)) (now (schedule .entry))) (carried (view .signal)) ⌝ }
+fn carried_value(untils: &[u32; MOST_VALUES]) -> Held
+    ensures { λ r. ⌜ r ≡ carriedIn (now (untils .entry)) ⌝ }
 {
-    let tasks = view.tasks;
     Held {
         element: CARRIED_ELEMENT,
         from: 0,
-        until: until(tasks, grid, view.signal, view.hyper, 0),
+        until: untils[CARRIED_AT],
     }
 }
 
 // The value of a writer's instance.
-fn written(writer: Writer, untils: &[u32; MOST_WRITTEN], instance: u32, schedule: &[u8]) -> Held
+fn written(writer: Writer, untils: &[u32; MOST_VALUES], instance: u32, schedule: &[u8]) -> Held
     requires { ⌜ InReach writer (now schedule) instance ⌝ }
     ensures { λ r. ⌜ r ≡ heldAt writer (now (untils .entry)) (now (schedule .entry)) instance ⌝ }
 {
@@ -64,7 +61,7 @@ fn written(writer: Writer, untils: &[u32; MOST_WRITTEN], instance: u32, schedule
 // No value of the writer's first `records` instances clashes with this one.
 fn apart_from(
     writer: Writer,
-    untils: &[u32; MOST_WRITTEN],
+    untils: &[u32; MOST_VALUES],
     records: u32,
     held: Held,
     schedule: &[u8],
@@ -86,7 +83,7 @@ fn apart_from(
 fn apart_from_earlier(
     view: View,
     grid: &[[u8; MOST_SIGNALS]; MOST_TASKS],
-    untils: &[u32; MOST_WRITTEN],
+    untils: &[u32; MOST_VALUES],
     task: usize,
     instance: u32,
     held: Held,
@@ -109,7 +106,7 @@ fn apart_from_earlier(
 pub fn shares(
     view: View,
     grid: &[[u8; MOST_SIGNALS]; MOST_TASKS],
-    untils: &[u32; MOST_WRITTEN],
+    untils: &[u32; MOST_VALUES],
     task: usize,
     instance: u32,
     schedule: &[u8],
@@ -118,7 +115,7 @@ pub fn shares(
     ensures { λ r. ⌜ r ≡ sharing (viewTable view (now (grid .entry))) (viewSchedule view (now (grid .entry)) (now (schedule .entry))) (wi (view .signal) task instance) ⌝ }
 {
     let held = written(writer_of(view, task), untils, instance, schedule);
-    if clashes(carried_value(view, grid, schedule), held) {
+    if clashes(carried_value(untils), held) {
         return true;
     }
     !apart_from_earlier(view, grid, untils, task, instance, held, schedule)

@@ -3,8 +3,8 @@ use crate::Fault;
 use crate::View;
 use crate::lives::shares;
 use crate::readers::sent_wrong;
-use crate::untils::MOST_WRITTEN;
-use crate::untils::untils_for;
+use crate::untils::MOST_VALUES;
+use crate::untils::keep_for;
 use form::Side;
 use form::permitted;
 use rules::ELEMENT_AT;
@@ -74,7 +74,8 @@ fn signal_fault(
     requires { ⌜ Seen view (now grid) (now schedule) ⌝ }
     ensures { λ r. ⌜ r ≡ walked (seek (viewTable view (now (grid .entry))) (wrongOf (viewTable view (now (grid .entry))) (viewSchedule view (now (grid .entry)) (now (schedule .entry))) side)) (sideOf (viewTable view (now (grid .entry))) (now (grid .entry)) side (view .tasks .count) (view .signal)) Fault.Nowhere ⌝ }
 {
-    let untils = untils_for(view, grid, side);
+    let mut untils: [u32; MOST_VALUES] = [0; MOST_VALUES];
+    keep_for(view, grid, side, &mut untils);
     let tasks = view.tasks;
     let mut k: usize = 0;
     while k < tasks.count {
@@ -93,7 +94,7 @@ fn signal_fault(
 fn task_fault(
     view: View,
     grid: &[[u8; MOST_SIGNALS]; MOST_TASKS],
-    untils: &[u32; MOST_WRITTEN],
+    untils: &[u32; MOST_VALUES],
     side: Side,
     task: usize,
     schedule: &[u8],
@@ -116,7 +117,7 @@ fn task_fault(
 fn is_wrong(
     view: View,
     grid: &[[u8; MOST_SIGNALS]; MOST_TASKS],
-    untils: &[u32; MOST_WRITTEN],
+    untils: &[u32; MOST_VALUES],
     side: Side,
     task: usize,
     instance: u32,

@@ -1,4 +1,4 @@
-// Until when each value of a signal is live, worked out once and kept by the number of its WI.
+// Until when each value of a signal is live, worked out once and kept: by the number of its WI, and after them all the carried one.
 use crate::View;
 use crate::search::records_of;
 use form::Side;
@@ -12,13 +12,15 @@ ghost use mathlib.Core.List.{List};
 ghost use Prim.Native.Nat.{ℕ, suc, _≤_, _<_};
 ghost use lib.ListN.{length, getD};
 ghost use Rattle.rules.specs.Values as values;
-ghost use Rattle.rules.specs.Table.{mostTasks, mostInstances};
+ghost use Rattle.rules.specs.Table.{mostTasks};
 ghost use Rattle.rules.specs.Bytes.{writersBelow};
 ghost use Rattle.form.specs.declared.sides.Side.{Side};
-ghost use Rattle.faults.specs.Faults.{viewTable, Seen, Has, writerOf, KeptBelow, Kept, KeptFor};
+ghost use Rattle.faults.specs.Faults.{viewTable, Seen, Has, writerOf, mostValues, KeptBelow, Kept, KeptFor};
 
-// A signal has at most as many WI as all tasks have instances.
-pub const MOST_WRITTEN: usize = MOST_INSTANCES as usize;
+// A signal has at most as many WI as all tasks have instances, and a carried value.
+pub const CARRIED_AT: usize = MOST_INSTANCES as usize;
+
+pub const MOST_VALUES: usize = CARRIED_AT + 1;
 
 // The WI of one task: where the element of the first stands, which number it has among those of the signal, and when it opens.
 pub struct Writer {
@@ -60,7 +62,7 @@ fn keep_task(
     view: View,
     grid: &[[u8; MOST_SIGNALS]; MOST_TASKS],
     task: usize,
-    untils: &mut [u32; MOST_WRITTEN],
+    untils: &mut [u32; MOST_VALUES],
 )
     requires { ⌜ ((bytes : List ℕ) × Seen view (now grid) bytes) × (task < view .tasks .count) × KeptBelow view (now grid) (writersBelow (viewTable view (now grid)) (view .signal) task) (now untils) ⌝ }
     ensures { λ r. ⌜ KeptBelow view (now (grid .entry)) (writersBelow (viewTable view (now (grid .entry))) (view .signal) (suc task)) (now (untils .exit)) ⌝ }
@@ -74,12 +76,13 @@ fn keep_task(
     }
 }
 
-// The values of all tasks.
-fn keep_all(view: View, grid: &[[u8; MOST_SIGNALS]; MOST_TASKS], untils: &mut [u32; MOST_WRITTEN])
-    requires { ⌜ ((bytes : List ℕ) × Seen view (now grid) bytes) × (length (now untils) ≡ mostInstances) ⌝ }
+// The carried value, and those of all tasks.
+fn keep_all(view: View, grid: &[[u8; MOST_SIGNALS]; MOST_TASKS], untils: &mut [u32; MOST_VALUES])
+    requires { ⌜ ((bytes : List ℕ) × Seen view (now grid) bytes) × (length (now untils) ≡ mostValues) ⌝ }
     ensures { λ r. ⌜ Kept view (now (grid .entry)) (now (untils .exit)) ⌝ }
 {
     let tasks = view.tasks;
+    untils[CARRIED_AT] = until(tasks, grid, view.signal, view.hyper, 0);
     let mut k: usize = 0;
     while k < tasks.count {
         keep_task(view, grid, k, untils);
@@ -88,20 +91,19 @@ fn keep_all(view: View, grid: &[[u8; MOST_SIGNALS]; MOST_TASKS], untils: &mut [u
 }
 
 // What a search on this side needs of them: 21 asks for none.
-pub fn untils_for(
+pub fn keep_for(
     view: View,
     grid: &[[u8; MOST_SIGNALS]; MOST_TASKS],
     side: Side,
-) -> [u32; MOST_WRITTEN]
-    requires { ⌜ ((bytes : List ℕ) × Seen view (now grid) bytes) ⌝ }
-    ensures { λ r. ⌜ KeptFor side view (now (grid .entry)) r ⌝ }
+    untils: &mut [u32; MOST_VALUES],
+)
+    requires { ⌜ ((bytes : List ℕ) × Seen view (now grid) bytes) × (length (now untils) ≡ mostValues) ⌝ }
+    ensures { λ r. ⌜ KeptFor side view (now (grid .entry)) (now (untils .exit)) ⌝ }
 {
-    let mut untils: [u32; MOST_WRITTEN] = [0; MOST_WRITTEN];
     match side {
         Side::Readers => {}
         Side::Writers => {
-            keep_all(view, grid, &mut untils);
+            keep_all(view, grid, untils);
         }
     }
-    untils
 }

@@ -19,14 +19,14 @@ returns c =
     let said = c .before in
     let held = said .before .before in
     let start = held .before .before .before in
-    shares-carried _ _ _ (start .pre .0) _ _ (start .pre .2) (held .written .ensures ∙ value-is _ _ _ (start .pre .0) _ (held .before .writer-of .ensures) (start .args .untils .now) (start .pre .1) _ (start .pre .2)) (said .before .carried-value .ensures) (said .clashes .ensures) (c .if1 .taken)
+    shares-carried _ _ _ (start .pre .0) _ _ (start .pre .2) (held .written .ensures ∙ value-is _ _ _ (start .pre .0) _ (held .before .writer-of .ensures) (start .args .untils .now) (start .pre .1) _ (start .pre .2)) (start .args .untils .now) (start .pre .1) (said .before .carried-value .ensures) (said .clashes .ensures) (c .if1 .taken)
 
 returns-2 : tie.Need-returns-2
 returns-2 c =
     let said = c .before .before in
     let held = said .before .before in
     let start = held .before .before .before in
-    shares-earlier _ _ _ (start .pre .0) _ _ (start .pre .2) (held .written .ensures ∙ value-is _ _ _ (start .pre .0) _ (held .before .writer-of .ensures) (start .args .untils .now) (start .pre .1) _ (start .pre .2)) (said .before .carried-value .ensures) (said .clashes .ensures) (c .before .if1 .left) (c .apart-from-earlier .ensures)
+    shares-earlier _ _ _ (start .pre .0) _ _ (start .pre .2) (held .written .ensures ∙ value-is _ _ _ (start .pre .0) _ (held .before .writer-of .ensures) (start .args .untils .now) (start .pre .1) _ (start .pre .2)) (start .args .untils .now) (start .pre .1) (said .before .carried-value .ensures) (said .clashes .ensures) (c .before .if1 .left) (c .apart-from-earlier .ensures)
 
 pub shares-spec : {M : Type 1} → statement M
 shares-spec =

@@ -17,8 +17,8 @@ Inv-loop view grid side schedule untils tasks k₀ k =
 abbrev μ-loop : tie.MeasureT-loop
 μ-loop view grid side schedule untils tasks k₀ k = view .tasks .count - k
 
-untils-for-requires : tie.Need-untils-for-requires Inv-loop μ-loop
-untils-for-requires c κs = (c .before .args .schedule .now, c .before .pre)
+keep-for-requires : tie.Need-keep-for-requires Inv-loop μ-loop
+keep-for-requires c κs = let start = c .before .before in ((start .args .schedule .now, start .pre), refl)
 
 loop-holds : tie.Need-loop-holds Inv-loop μ-loop
 unfolding sideOf
@@ -28,7 +28,7 @@ task-fault-requires : tie.Need-task-fault-requires Inv-loop μ-loop
 task-fault-requires c κs =
     let tested = c .before in
     let kept = tested .before .before .before .before in
-    (kept .before .before .pre, kept .untils-for .ensures, tested .if1 .taken)
+    (kept .before .before .before .pre, kept .keep-for .ensures, tested .if1 .taken)
 
 returns : tie.Need-returns Inv-loop μ-loop
 unfolding sideOf
@@ -47,7 +47,7 @@ loop-again c =
 returns-2 : tie.Need-returns-2 Inv-loop μ-loop
 returns-2 c =
     let looped = c .before .before in
-    let e : looped .loop .k ≡ looped .before .before .before .before .args .view .tasks .count = omega (arith, looped .loop .inv .0, c .if1 .left) in
+    let e : looped .loop .k ≡ looped .before .before .before .before .before .args .view .tasks .count = omega (arith, looped .loop .inv .0, c .if1 .left) in
     rw e at (looped .loop .inv .1)
 
 pub signal-fault-spec : {M : Type 1} → statement M
@@ -56,7 +56,7 @@ signal-fault-spec =
     (tie.spec
     Inv-loop
     μ-loop
-    untils-for-requires
+    keep-for-requires
     loop-holds
     task-fault-requires
     (λ c. search needs)
