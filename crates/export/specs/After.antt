@@ -2,10 +2,8 @@
 use Rattle.rules.specs.Numbers.{Told, told}
 use Rattle.machine.specs.declared.Machine.{Machine}
 use Rattle.machine.specs.declared.Stepped.{Stepped}
-use Rattle.machine.specs.declared.WordRead.{WordRead}
 use Rattle.export.specs.declared.Numbered.{Numbered}
 use Rattle.export.specs.declared.After.{After}
-use Rattle.export.specs.declared.Word.{Word}
 
 -- number and place of an answer
 abbrev pub numbered : Told → Numbered
@@ -17,7 +15,3 @@ leaves t m = record { number = t .number; place = t .place; machine = m }
 
 abbrev pub afterOf : Stepped → After
 afterOf r = leaves (told (r .answer)) (r .machine)
-
--- the number of a read's answer, and its word
-abbrev pub wordOf : WordRead → Word
-wordOf r = record { number = told (r .answer) .number; word = r .word }

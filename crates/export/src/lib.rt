@@ -12,7 +12,7 @@ ghost use Rattle.plan.specs.Planning.{planTold, planOut};
 ghost use Rattle.lives.specs.Lives.{liveTold, liveOut};
 ghost use Rattle.machine.specs.Calls.{unloaded, stepOf, readOf, writeOf};
 ghost use Rattle.machine.specs.Load.{loadLeaves};
-ghost use Rattle.export.specs.After.{numbered, leaves, afterOf, wordOf};
+ghost use Rattle.export.specs.After.{numbered, leaves, afterOf};
 
 // Reading a table: 0, or 1 to 11.
 #[no_mangle]
@@ -89,12 +89,6 @@ pub struct After {
     pub machine: Machine,
 }
 
-// The number of a read's answer, and its word.
-pub struct Word {
-    pub number: u8,
-    pub word: u32,
-}
-
 fn after_call(next: Stepped) -> After
     ensures { λ r. ⌜ r ≡ afterOf next ⌝ }
 {
@@ -112,29 +106,6 @@ fn after_load<'a>(machine: Machine, table: &'a [u8], schedule: &'a [u8]) -> Afte
     ensures { λ r. ⌜ r ≡ leaves (loadSays (now (table .entry)) (now (schedule .entry))) (loadLeaves machine (now (table .entry)) (now (schedule .entry))) ⌝ }
 {
     after_call(machine.load(table, schedule))
-}
-
-fn after_step(machine: Machine) -> After
-    ensures { λ r. ⌜ r ≡ afterOf (stepOf machine) ⌝ }
-{
-    after_call(machine.step())
-}
-
-fn after_write(machine: Machine, task: usize, signal: usize, word: u32) -> After
-    ensures { λ r. ⌜ r ≡ afterOf (writeOf machine task signal word) ⌝ }
-{
-    after_call(machine.write(task, signal, word))
-}
-
-fn word_read(machine: Machine, task: usize, signal: usize) -> Word
-    ensures { λ r. ⌜ r ≡ wordOf (readOf machine task signal) ⌝ }
-{
-    let read = machine.read(task, signal);
-    let answer = read.answer;
-    Word {
-        number: answers::number(answer),
-        word: read.word,
-    }
 }
 
 // A machine before its first loading, in memory that the caller lends.
@@ -169,9 +140,23 @@ pub extern "C" fn press_step(machine: &mut Machine) -> u8
     ensures { λ r. ⌜ (r ≡ told (stepOf (now (machine .entry)) .answer) .number)
         × (now (machine .exit) ≡ stepOf (now (machine .entry)) .machine) ⌝ }
 {
-    let after = after_step(*machine);
-    *machine = after.machine;
-    after.number
+    let answer = machine::lists::step(
+        machine.loaded,
+        machine.hyper,
+        &mut machine.tick,
+        &machine.periods,
+        &machine.starts,
+        &machine.ends,
+        &machine.counts,
+        &machine.reads,
+        &machine.writes,
+        &machine.uses,
+        &machine.defaults,
+        &machine.carried,
+        &mut machine.held,
+        &mut machine.store,
+    );
+    answers::number(answer)
 }
 
 // What a task reads of a signal now: 0 with the word, or 23 to 25 with word 0.
@@ -180,9 +165,25 @@ pub extern "C" fn press_read(machine: &Machine, task: usize, signal: usize, word
     ensures { λ r. ⌜ (r ≡ told (readOf (now (machine .entry)) task signal .answer) .number)
         × (now (word .exit) ≡ readOf (now (machine .entry)) task signal .word) ⌝ }
 {
-    let read = word_read(*machine, task, signal);
+    let read = machine::lists::read(
+        machine.loaded,
+        machine.hyper,
+        machine.tick,
+        &machine.periods,
+        &machine.starts,
+        &machine.ends,
+        &machine.counts,
+        &machine.reads,
+        &machine.writes,
+        &machine.uses,
+        &machine.carried,
+        &machine.held,
+        &machine.store,
+        task,
+        signal,
+    );
     *word = read.word;
-    read.number
+    answers::number(read.answer)
 }
 
 // A task's write to a signal: 0, or 23 to 25.
@@ -191,7 +192,23 @@ pub extern "C" fn press_write(machine: &mut Machine, task: usize, signal: usize,
     ensures { λ r. ⌜ (r ≡ told (writeOf (now (machine .entry)) task signal word .answer) .number)
         × (now (machine .exit) ≡ writeOf (now (machine .entry)) task signal word .machine) ⌝ }
 {
-    let after = after_write(*machine, task, signal, word);
-    *machine = after.machine;
-    after.number
+    let answer = machine::lists::write(
+        machine.loaded,
+        machine.hyper,
+        machine.tick,
+        &machine.periods,
+        &machine.starts,
+        &machine.ends,
+        &machine.counts,
+        &machine.reads,
+        &machine.writes,
+        &machine.uses,
+        &machine.carried,
+        &machine.held,
+        &mut machine.store,
+        task,
+        signal,
+        word,
+    );
+    answers::number(answer)
 }
