@@ -1,6 +1,5 @@
 -- Each WI of a signal has its own number, so that the end of each life is kept at a place of its own.
 use mathlib.Core.Path.{_≡_, refl, sym, ap, ap₂, subst, _∙_}
-use mathlib.Core.Bool.{Bool, true, false}
 use mathlib.Core.List.{List}
 use Prim.Native.Nat.{ℕ, suc, _+_, _*_, _≤_, _<_}
 use native.Mathlib.Omega.{arith}
@@ -9,20 +8,20 @@ use lib.ListN.{length, getD, set, length-set}
 use lib.Seq.{getD-set-same, getD-set-other}
 use borrow.Author.Tests.{eqb-true, eqb-false}
 use Rattle.rules.specs.Words.{total, times}
-use Rattle.rules.specs.Windows.{Table, instances}
+use Rattle.rules.specs.Windows.{Table, hyper, instances}
 use Rattle.rules.specs.Values.{carried, by, until}
 use Rattle.rules.specs.Table.{mostTasks, mostInstances, Fits}
 use Rattle.rules.specs.Bytes.{writersBelow}
-use Rattle.rules.specs.Reading.{Grid}
+use Rattle.rules.specs.Reading.{Grid, writesIn}
 use Rattle.theory.proofs.Tests.{split}
-use Rattle.theory.proofs.Sums.{total-mono}
 use Rattle.form.specs.declared.sides.Side.{Side}
+use Rattle.events.proofs.Alone.{fits-alone}
 use Rattle.sweep.proofs.Inspected.{total-within}
+use Rattle.sweep.proofs.Rows.{row-few}
 use Rattle.faults.specs.declared.View.{View}
-use Rattle.faults.specs.declared.lives.Held.{Held}
 use Rattle.faults.specs.declared.untils.Writer.{Writer}
-use Rattle.faults.specs.Faults.{viewTable, viewSchedule, Seen, Has, recordsIn, heldOf, mostValues, KeptBelow, Kept, KeptFor, writerOf, heldAt, InReach}
-use Rattle.faults.proofs.Viewed.{has-below, none-below, place-is, places-apart, written-is, within, held-is}
+use Rattle.faults.specs.Faults.{viewTable, viewSchedule, Seen, Has, recordsIn, heldOf, mostValues, numberOf, KeptBelow, KeptTo, Kept, KeptFor, writerOf, heldAt, InReach}
+use Rattle.faults.proofs.Viewed.{has-of, has-below, none-below, place-is, places-apart, written-is, within, held-is}
 
 module _ (v : View) (grid : Grid) where
   abbrev tab : Table
@@ -32,10 +31,10 @@ module _ (v : View) (grid : Grid) where
   s = v .signal
 
   abbrev number : ℕ → ℕ → ℕ
-  number k i = writersBelow tab s k + i
+  number = numberOf v grid
 
   -- lower tasks have lower numbers
-  before : (k i n : ℕ) → Has v grid Side.Writers k i → k < n → number k i < writersBelow tab s n
+  before : (k i n : ℕ) → Has v grid Side.Writers k i → k < n → number k i < number n 0
   unfolding writersBelow recordsIn
   before k i n H h =
       let b : i < times (tab .writes s k) (instances tab k) = has-below v grid Side.Writers k i H in
@@ -48,20 +47,21 @@ module _ (v : View) (grid : Grid) where
       let z : k ≡ l = omega arith in
       (z, omega (arith, ap (writersBelow tab s) z))
 
-  pub number-low : Fits tab → (k i : ℕ) → Has v grid Side.Writers k i → number k i < mostInstances
-  unfolding writersBelow
-  number-low F k i H = omega (arith, before k i (v .tasks .count) H (H .0), total-mono (λ k. times (tab .writes s k) (instances tab k)) (instances tab) (v .tasks .count) (λ k m. fewer (tab .writes s k) (instances tab k)), F .few-instances)
-    where
-      fewer : (b : Bool) (n : ℕ) → times b n ≤ n
-      fewer true n = omega arith
-      fewer false n = omega arith
+  few-numbers : Fits tab → writersBelow tab s (v .tasks .count) ≤ mostInstances
+  unfolding writersBelow writesIn hyper
+  few-numbers F = row-few (v .tasks) grid s 2 0 (fits-alone (v .tasks) (v .signals) grid F grid)
+
+  number-low : Fits tab → (k i : ℕ) → Has v grid Side.Writers k i → number k i < mostInstances
+  number-low F k i H = omega (arith, before k i (v .tasks .count) H (H .0), few-numbers F)
 
   -- the next task's numbers follow
-  pub numbers-more : (k : ℕ) → writersBelow tab s (suc k) ≡ writersBelow tab s k + recordsIn tab grid Side.Writers s k
+  pub numbers-more : (k : ℕ) → number (suc k) 0 ≡ number k (recordsIn tab grid Side.Writers s k)
   unfolding writersBelow total recordsIn
-  numbers-more k = refl
+  numbers-more k =
+      let e : writersBelow tab s (suc k) ≡ writersBelow tab s k + recordsIn tab grid Side.Writers s k = refl in
+      omega arith
 
-  pub kept-none : (untils : List ℕ) → length untils ≡ mostValues → {u : ℕ} → u ≡ until tab (carried s) → KeptBelow v grid (writersBelow tab s 0) (set untils mostInstances u)
+  pub kept-none : (untils : List ℕ) → length untils ≡ mostValues → {u : ℕ} → u ≡ until tab (carried s) → KeptTo v grid 0 (set untils mostInstances u)
   kept-none untils q {u} e = record {
     size = length-set untils mostInstances u ∙ q;
     first = getD-set-same untils mostInstances u 0 (omega arith) ∙ e;
@@ -80,8 +80,8 @@ module _ (v : View) (grid : Grid) where
         getD-set-other untils n (number l j) u 0 y ∙ A .ends l j L (omega (arith, m)));
   }
 
-  pub kept-all : (untils : List ℕ) → KeptBelow v grid (writersBelow tab s (v .tasks .count)) untils → Kept v grid untils
-  kept-all untils A = record { first = A .first; ends = λ k i H. A .ends k i H (before k i (v .tasks .count) H (H .0)) }
+  pub kept-end : (untils : List ℕ) → Kept v grid untils → (k i : ℕ) → Has v grid Side.Writers k i → getD untils (number k i) 0 ≡ until tab (by s k i)
+  kept-end untils A k i H = A .ends k i H (before k i (v .tasks .count) H (H .0))
 
   -- what each side asks for
   pub kept-readers : (untils : List ℕ) {side : Side} → side ≡ Side.Readers → KeptFor side v grid untils
@@ -107,8 +107,11 @@ module _ (v : View) (grid : Grid) (bytes : List ℕ) (K : Seen v grid bytes) (k 
       let p = ap (λ (w : Writer). i * w .period + w .start) e in
       (omega (arith, at .0, at .1), omega (arith, number-is (H .0), number-low v grid (K .fits) k i H), omega (arith, within v grid bytes K Side.Writers k i H))
 
+  pub room : k < v .tasks .count → {n : ℕ} → n ≡ recordsIn (viewTable v grid) grid Side.Writers (v .signal) k → (i : ℕ) → i < n → w .number + i < mostInstances
+  room h q i l = in-reach i (has-of v grid Side.Writers k i h (omega arith) l) .1
+
   -- what is kept is the value's life
   pub value-is : (untils : List ℕ) → Kept v grid untils → (i : ℕ) → Has v grid Side.Writers k i → heldAt w untils bytes i ≡ heldOf (viewTable v grid) (viewSchedule v grid bytes) (by (v .signal) k i)
   value-is untils A i H =
       ap (λ (w : Writer). heldAt w untils bytes i) e
-      ∙ held-is _ (written-is v grid bytes K k i H) (ap (λ n. getD untils (n + i) 0) (sym (ap (λ (w : Writer). w .number) e) ∙ number-is (H .0)) ∙ A .ends k i H)
+      ∙ held-is _ (written-is v grid bytes K k i H) (ap (λ n. getD untils (n + i) 0) (sym (ap (λ (w : Writer). w .number) e) ∙ number-is (H .0)) ∙ kept-end v grid untils A k i H)

@@ -110,20 +110,22 @@ abbrev pub mostValues : ℕ
 mostValues = mostInstances + 1
 
 module _ (v : View) (grid : Grid) where
-  -- where the end of a life is kept: by the number of its WI
-  abbrev pub endIn : List ℕ → ℕ → ℕ → ℕ
-  endIn untils k i = getD untils (writersBelow (viewTable v grid) (v .signal) k + i) 0
+  -- the number of the WI of instance i of task k among those of the signal
+  abbrev pub numberOf : ℕ → ℕ → ℕ
+  numberOf k i = writersBelow (viewTable v grid) (v .signal) k + i
 
-  -- the ends of the carried value's life and of those of the signal's first n WI
+  -- where they are kept, the ends of the carried value's life and of those of the first n WI
   pub record KeptBelow (n : ℕ) (untils : List ℕ) : Type 0 where
     pub size : length untils ≡ mostValues
     pub first : getD untils mostInstances 0 ≡ until (viewTable v grid) (carried (v .signal))
-    pub ends : (k i : ℕ) → Has v grid Side.Writers k i → writersBelow (viewTable v grid) (v .signal) k + i < n → endIn untils k i ≡ until (viewTable v grid) (by (v .signal) k i)
+    pub ends : (k i : ℕ) → Has v grid Side.Writers k i → numberOf k i < n → getD untils (numberOf k i) 0 ≡ until (viewTable v grid) (by (v .signal) k i)
 
-  -- those of all
-  pub record Kept (untils : List ℕ) : Type 0 where
-    pub first : getD untils mostInstances 0 ≡ until (viewTable v grid) (carried (v .signal))
-    pub ends : (k i : ℕ) → Has v grid Side.Writers k i → endIn untils k i ≡ until (viewTable v grid) (by (v .signal) k i)
+  -- those of the tasks below n, and of all
+  abbrev pub KeptTo : ℕ → List ℕ → Type 0
+  KeptTo n = KeptBelow (numberOf n 0)
+
+  abbrev pub Kept : List ℕ → Type 0
+  Kept = KeptTo (v .tasks .count)
 
 -- only 22 asks for them
 abbrev pub KeptFor : Side → View → Grid → List ℕ → Type 0

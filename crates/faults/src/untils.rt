@@ -13,9 +13,8 @@ ghost use Prim.Native.Nat.{ℕ, suc, _≤_, _<_};
 ghost use lib.ListN.{length, getD};
 ghost use Rattle.rules.specs.Values as values;
 ghost use Rattle.rules.specs.Table.{mostTasks};
-ghost use Rattle.rules.specs.Bytes.{writersBelow};
 ghost use Rattle.form.specs.declared.sides.Side.{Side};
-ghost use Rattle.faults.specs.Faults.{viewTable, Seen, Has, writerOf, mostValues, KeptBelow, Kept, KeptFor};
+ghost use Rattle.faults.specs.Faults.{viewTable, Seen, Has, writerOf, mostValues, KeptTo, Kept, KeptFor};
 
 // A signal has at most as many WI as all tasks have instances, and a carried value.
 pub const CARRIED_AT: usize = MOST_INSTANCES as usize;
@@ -64,8 +63,8 @@ fn keep_task(
     task: usize,
     untils: &mut [u32; MOST_VALUES],
 )
-    requires { ⌜ ((bytes : List ℕ) × Seen view (now grid) bytes) × (task < view .tasks .count) × KeptBelow view (now grid) (writersBelow (viewTable view (now grid)) (view .signal) task) (now untils) ⌝ }
-    ensures { λ r. ⌜ KeptBelow view (now (grid .entry)) (writersBelow (viewTable view (now (grid .entry))) (view .signal) (suc task)) (now (untils .exit)) ⌝ }
+    requires { ⌜ ((bytes : List ℕ) × Seen view (now grid) bytes) × (task < view .tasks .count) × KeptTo view (now grid) task (now untils) ⌝ }
+    ensures { λ r. ⌜ KeptTo view (now (grid .entry)) (suc task) (now (untils .exit)) ⌝ }
 {
     let first = writer_of(view, task).number;
     let records = records_of(view, grid, Side::Writers, task);

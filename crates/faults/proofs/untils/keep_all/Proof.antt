@@ -1,19 +1,18 @@
 -- `untils::keep_all` meets its contract: the values of the tasks below k are kept.
-use mathlib.Core.Path.{_≡_, sym, ap, _∙_}
+use mathlib.Core.Path.{_≡_, sym, ap}
 use Prim.Native.Nat.{_-_, _≤_}
 use native.Mathlib.Numerals.{add-one}
 use native.Mathlib.Omega.{arith}
 use borrow.Author.Needs.{needs}
-use Rattle.rules.specs.Bytes.{writersBelow}
 use Rattle.rules.specs.Values.{carried}
-use Rattle.faults.specs.Faults.{viewTable, KeptBelow}
+use Rattle.faults.specs.Faults.{numberOf, KeptTo}
 use Rattle.faults.proofs.Viewed.{view-ready, until-of}
-use Rattle.faults.proofs.Numbered.{kept-none, kept-all, kept-at}
+use Rattle.faults.proofs.Numbered.{kept-none, kept-at}
 use Rattle.faults.proofs.untils.keep_all.Statement.{statement}
 use Rattle.faults.proofs.untils.keep_all.Tie as tie
 
 abbrev Inv-loop : tie.InvT-loop
-Inv-loop view grid untils₀ tasks k₀ untils k = (k ≤ view .tasks .count) × KeptBelow view grid (writersBelow (viewTable view grid) (view .signal) k) untils
+Inv-loop view grid untils₀ tasks k₀ untils k = (k ≤ view .tasks .count) × KeptTo view grid k untils
 
 abbrev μ-loop : tie.MeasureT-loop
 μ-loop view grid untils₀ tasks k₀ untils k = view .tasks .count - k
@@ -39,14 +38,14 @@ loop-again : tie.Need-loop-again Inv-loop μ-loop
 loop-again c =
     let tested = c .before .before in
     let start = tested .before .before .before .before .before in
-    (omega (arith, tested .if1 .taken), kept-at (start .args .view) (start .args .grid .now) _ (ap (writersBelow (viewTable (start .args .view) (start .args .grid .now)) (start .args .view .signal)) (sym (add-one _))) (c .keep-task .ensures))
+    (omega (arith, tested .if1 .taken), kept-at (start .args .view) (start .args .grid .now) _ (ap (λ k. numberOf (start .args .view) (start .args .grid .now) k 0) (sym (add-one _))) (c .keep-task .ensures))
 
 returns : tie.Need-returns Inv-loop μ-loop
 returns c =
     let looped = c .before .before in
     let start = looped .before .before .before in
     let e : looped .loop .k ≡ start .args .view .tasks .count = omega (arith, looped .loop .inv .0, c .if1 .left) in
-    kept-all (start .args .view) (start .args .grid .now) (looped .loop .untils) (rw e at (looped .loop .inv .1))
+    rw e at (looped .loop .inv .1)
 
 pub keep-all-spec : {M : Type 1} → statement M
 keep-all-spec =

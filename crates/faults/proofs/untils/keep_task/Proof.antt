@@ -1,19 +1,17 @@
 -- `untils::keep_task` meets its contract: the values of the earlier tasks and of the instances below i are kept.
-use mathlib.Core.Path.{_≡_, sym, ap, _∙_}
-use Prim.Native.Nat.{ℕ, _+_, _-_, _≤_, _<_}
+use Prim.Native.Nat.{_-_, _≤_}
 use native.Mathlib.Omega.{arith}
 use borrow.Author.Needs.{needs}
-use Rattle.rules.specs.Bytes.{writersBelow}
 use Rattle.form.specs.declared.sides.Side.{Side}
-use Rattle.faults.specs.Faults.{viewTable, KeptBelow}
+use Rattle.faults.specs.Faults.{numberOf, KeptBelow}
 use Rattle.faults.proofs.Viewed.{has-of}
-use Rattle.faults.proofs.Numbered.{writers-asked, number-is, number-low, numbers-more, kept-more, kept-at}
+use Rattle.faults.proofs.Numbered.{writers-asked, number-is, room, numbers-more, kept-more, kept-at}
 use Rattle.faults.proofs.untils.keep_task.Statement.{statement}
 use Rattle.faults.proofs.untils.keep_task.Tie as tie
 
 abbrev Inv-loop : tie.InvT-loop
 Inv-loop view grid task untils₀ first records i₀ untils i =
-    (i ≤ records) × KeptBelow view grid (writersBelow (viewTable view grid) (view .signal) task + i) untils
+    (i ≤ records) × KeptBelow view grid (numberOf view grid task i) untils
 
 abbrev μ-loop : tie.MeasureT-loop
 μ-loop view grid task untils₀ first records i₀ untils i = records - i
@@ -25,7 +23,7 @@ records-of-requires : tie.Need-records-of-requires Inv-loop μ-loop
 records-of-requires c κs = (c .before .pre .0, c .before .pre .1)
 
 loop-holds : tie.Need-loop-holds Inv-loop μ-loop
-loop-holds c = let start = c .before .before in (omega arith, kept-at (start .args .view) (start .args .grid .now) (start .args .untils .now) (omega arith) (start .pre .2))
+loop-holds c = (omega arith, c .before .before .pre .2)
 
 life-end-requires : tie.Need-life-end-requires Inv-loop μ-loop
 life-end-requires c κs =
@@ -37,22 +35,19 @@ add-untils : tie.Need-add-untils Inv-loop μ-loop
 add-untils c =
     let counted = c .before .before .before in
     let start = counted .before .before in
-    let has = has-of (start .args .view) (start .args .grid .now) Side.Writers _ _ (start .pre .1) (omega (arith, counted .records-of .ensures)) (c .before .loop-test .taken) in
-    omega (arith, number-is _ _ _ (start .pre .0 .1) _ (counted .before .writer-of .ensures) (start .pre .1), number-low (start .args .view) (start .args .grid .now) (start .pre .0 .1 .fits) _ _ has)
+    omega (arith, room _ _ _ (start .pre .0 .1) _ (counted .before .writer-of .ensures) (start .pre .1) (counted .records-of .ensures) _ (c .before .loop-test .taken))
 
 mul-untils : tie.Need-mul-untils Inv-loop μ-loop
 mul-untils c =
     let counted = c .before .before .before in
     let start = counted .before .before in
-    let has = has-of (start .args .view) (start .args .grid .now) Side.Writers _ _ (start .pre .1) (omega (arith, counted .records-of .ensures)) (c .before .loop-test .taken) in
-    omega (arith, number-is _ _ _ (start .pre .0 .1) _ (counted .before .writer-of .ensures) (start .pre .1), number-low (start .args .view) (start .args .grid .now) (start .pre .0 .1 .fits) _ _ has)
+    omega (arith, room _ _ _ (start .pre .0 .1) _ (counted .before .writer-of .ensures) (start .pre .1) (counted .records-of .ensures) _ (c .before .loop-test .taken))
 
 element-write-untils : tie.Need-element-write-untils Inv-loop μ-loop
 element-write-untils c =
     let counted = c .before .before .before in
     let start = counted .before .before in
-    let has = has-of (start .args .view) (start .args .grid .now) Side.Writers _ _ (start .pre .1) (omega (arith, counted .records-of .ensures)) (c .before .loop-test .taken) in
-    omega (arith, number-is _ _ _ (start .pre .0 .1) _ (counted .before .writer-of .ensures) (start .pre .1), number-low (start .args .view) (start .args .grid .now) (start .pre .0 .1 .fits) _ _ has)
+    omega (arith, room _ _ _ (start .pre .0 .1) _ (counted .before .writer-of .ensures) (start .pre .1) (counted .records-of .ensures) _ (c .before .loop-test .taken))
 
 loop-again : tie.Need-loop-again Inv-loop μ-loop
 loop-again c =
