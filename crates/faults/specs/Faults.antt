@@ -114,7 +114,7 @@ module _ (v : View) (grid : Grid) where
   abbrev pub numberOf : ℕ → ℕ → ℕ
   numberOf k i = writersBelow (viewTable v grid) (v .signal) k + i
 
-  -- where they are kept, the ends of the carried value's life and of those of the first n WI
+  -- the ends of the lives of the carried value and of the first n WI, each at its place
   pub record KeptBelow (n : ℕ) (untils : List ℕ) : Type 0 where
     pub size : length untils ≡ mostValues
     pub first : getD untils mostInstances 0 ≡ until (viewTable v grid) (carried (v .signal))
