@@ -1,11 +1,10 @@
--- What the walks of this crate share: four steps, one call, and what is known of a machine and of what a call on one leaves.
+-- What the walks of this crate share: four steps, two calls, and what is known of a machine.
 --     takes    what is lent as `&mut` is opened: the value lies in memory, and its relation is learned
 --     puts     another value of plain data was stored there, and the borrow is closed at it
 --     tells    what a called function gives back: its result, and what its contract says of that and of the last values (`last`)
 --     answers  the same, where nothing is said of last values
---     Numbering, to-number, number-asks     the call of `answers::number`, with which a call on the machine ends
---     machineVal, machine-tells, machine-makes, machine-typed     a machine's machine value, and its type's laws;  hyper-fits, tick-fits     what is known of two of its numbers
---     after-number, after-place, after-machine                    what is known of each part of an `After`
+--     Number, to-number, asks-number      the call of `answers::number`;  Numbers, to-numbers, asks-numbers     that of `numbers_of`
+--     machineVals, machine-tells, machine-makes, machine-typed     a machine's machine value, and its type's laws;  hyper-fits, tick-fits     what is known of two of its numbers
 -- Assumes nothing.
 use mathlib.Core.List.{List, [], _∷_}
 use Prim.Native.Nat.{ℕ, _<_, _^_}
@@ -35,13 +34,11 @@ use denote.Triple.Spec.{tripleOf}
 use Rattle.rules.specs.declared.Answer.{Answer}
 use Rattle.rules.proofs.Answer as S
 use Rattle.rules.proofs.Answer.Laws as S′
-use Rattle.answers.proofs.number as numbering
+use Rattle.answers.proofs.number as number
 use Rattle.machine.specs.declared.Machine.{Machine}
 use Rattle.machine.proofs.Machine as T
 use Rattle.machine.proofs.Machine.Laws as T′
-use Rattle.export.specs.declared.After.{After}
-use Rattle.export.proofs.After as F
-use Rattle.export.proofs.After.Laws as F′
+use Rattle.export.proofs.numbers_of as numbers
 
 module _ {M : Type 1} {𝓤 : URA M} {H : Heap 𝓤} {A : Atoms 𝓤} {K : Type 0} {W : Given 𝓤 H A} {Γ : List (Item 𝓤)} {G : Goal 𝓤 H} where
   module _ (t : K) (z : Soaks G) (R : RattleType) (vals : R .Denot → List Val) where
@@ -69,21 +66,27 @@ module _ {M : Type 1} {𝓤 : URA M} {H : Heap 𝓤} {A : Atoms 𝓤} {K : Type 
       → Seq K W (raw (H .⇛ (ex 𝓤 (λ (r : R .Denot). sep 𝓤 (sep 𝓤 (mean 𝓤 H A P) (sem 𝓤 H A (R .own r (u ∷ [])))) (ex 𝓤 (λ (ws : Ws). sep 𝓤 (sem 𝓤 H A (last ws)) (fact 𝓤 (Fact r))))))) ∷ Γ) G
   answers t z P R u last Fact k = tells t z P R u last (λ r ws. Fact r) (λ r ws told is. move t (1 ∷ []) $ drop t $ k r told is)
 
--- ---- the number of an answer, by `answers::number`: it is handed facts only
+-- ---- two calls that are handed an answer, so facts only: its number by `answers::number`, its number and place by `numbers_of`
 module _ {M : Type 1} (𝓤 : URA M) (H : Heap 𝓤) (A : Atoms 𝓤) (mem : Memory → SProp 𝓤) (run : Routine → Fun 𝓤) where
-  abbrev pub Numbering : Contract 𝓤
-  Numbering = tripleOf 𝓤 H A numbering.signature (numbering.spec 𝓤 H A mem run)
+  abbrev pub Number : Contract 𝓤
+  Number = tripleOf 𝓤 H A number.signature (number.spec 𝓤 H A mem run)
 
-  abbrev pub to-number : Answer → Val → Numbering .Ghost
+  abbrev pub Numbers : Contract 𝓤
+  Numbers = tripleOf 𝓤 H A numbers.signature (numbers.spec 𝓤 H A mem run)
+
+  abbrev pub to-number : Answer → Val → Number .Ghost
   to-number r u = ((tt, tt, tt, (r, tt), (u ∷ [], tt)), tt)
 
-  pub number-asks : Given 𝓤 H A → (r : Answer) (u : Val) → Is S.the-row r (u ∷ []) → ent 𝓤 (emp 𝓤) (Numbering .pre (to-number r u))
-  number-asks W r u is = qed W [] ∵ nothing ! $ nothing ! $ owned ! S.the-row (Is S.the-row) (EL.makes S.the-type S′.the-plain 𝓤 H A) r _ is $ fjoin ! $ move ! (1 ∷ 0 ∷ []) $ join ! $ frame ! $ done !
+  abbrev pub to-numbers : Answer → Val → Numbers .Ghost
+  to-numbers r u = ((tt, tt, tt, (r, tt), (u ∷ [], tt)), tt)
 
--- ---- a machine, and what a call on one leaves
+  pub asks-number : Given 𝓤 H A → (r : Answer) (u : Val) → Is S.the-row r (u ∷ []) → ent 𝓤 (emp 𝓤) (Number .pre (to-number r u))
+  asks-number W r u is = qed W [] ∵ nothing ! $ nothing ! $ owned ! S.the-row (Is S.the-row) (EL.makes S.the-type S′.the-plain 𝓤 H A) r _ is $ fjoin ! $ move ! (1 ∷ 0 ∷ []) $ join ! $ frame ! $ done !
 
-abbrev pub machineVal : Machine → Val
-machineVal = LL.val T.the-type T′.the-laws
+  pub asks-numbers : Given 𝓤 H A → (r : Answer) (u : Val) → Is S.the-row r (u ∷ []) → ent 𝓤 (emp 𝓤) (Numbers .pre (to-numbers r u))
+  asks-numbers = asks-number
+
+-- ---- a machine
 
 abbrev pub machineVals : Machine → List Val
 machineVals = LL.vals T.the-type T′.the-laws
@@ -107,13 +110,3 @@ module _ (m : Machine) (is : IsMachine m) where
 
   pub tick-fits : m .tick < 2 ^ 32
   tick-fits = LL.owed T.the-type T′.the-laws m (machineVals m) is .1 .1 .0 .1
-
-module _ (r : After) (u : Val) (is : Is F.the-row r (u ∷ [])) where
-  pub after-number : r .number < 2 ^ 8
-  after-number = LL.owed F.the-type F′.the-laws r (u ∷ []) is .0 .1
-
-  pub after-place : r .place < 2 ^ 64
-  after-place = LL.owed F.the-type F′.the-laws r (u ∷ []) is .1 .0 .1
-
-  pub after-machine : IsMachine (r .machine)
-  after-machine = LL.owed F.the-type F′.the-laws r (u ∷ []) is .1 .1 .0

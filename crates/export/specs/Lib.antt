@@ -1,1 +1,1 @@
-pub mod After
+pub mod Numbers

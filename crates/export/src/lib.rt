@@ -1,7 +1,6 @@
 // The library for firmware: document 01's functions under C names. Each gives back the number of its answer, and its place through the last parameter.
 use lives::LiveValue;
 use machine::Machine;
-use machine::Stepped;
 use rules::Answer;
 ghost use mathlib.Core.Path.{_≡_};
 ghost use lib.ListN.{length};
@@ -12,7 +11,7 @@ ghost use Rattle.plan.specs.Planning.{planTold, planOut};
 ghost use Rattle.lives.specs.Lives.{liveTold, liveOut};
 ghost use Rattle.machine.specs.Calls.{unloaded, stepOf, readOf, writeOf};
 ghost use Rattle.machine.specs.Load.{loadLeaves};
-ghost use Rattle.export.specs.After.{numbered, leaves, afterOf};
+ghost use Rattle.export.specs.Numbers.{numbered};
 
 // Reading a table: 0, or 1 to 11.
 #[no_mangle]
@@ -82,32 +81,6 @@ pub extern "C" fn press_live(
     told.number
 }
 
-// What a call leaves: number and place of its answer, and the machine after it.
-pub struct After {
-    pub number: u8,
-    pub place: usize,
-    pub machine: Machine,
-}
-
-fn after_call(next: Stepped) -> After
-    ensures { λ r. ⌜ r ≡ afterOf next ⌝ }
-{
-    let answer = next.answer;
-    let machine = next.machine;
-    let told = numbers_of(answer);
-    After {
-        number: told.number,
-        place: told.place,
-        machine: machine,
-    }
-}
-
-fn after_load<'a>(machine: Machine, table: &'a [u8], schedule: &'a [u8]) -> After
-    ensures { λ r. ⌜ r ≡ leaves (loadSays (now (table .entry)) (now (schedule .entry))) (loadLeaves machine (now (table .entry)) (now (schedule .entry))) ⌝ }
-{
-    after_call(machine.load(table, schedule))
-}
-
 // A machine before its first loading, in memory that the caller lends.
 #[no_mangle]
 pub extern "C" fn press_new(machine: &mut Machine)
@@ -128,10 +101,27 @@ pub extern "C" fn press_load<'a>(
         × (now (place .exit) ≡ loadSays (now (table .entry)) (now (schedule .entry)) .place)
         × (now (machine .exit) ≡ loadLeaves (now (machine .entry)) (now (table .entry)) (now (schedule .entry))) ⌝ }
 {
-    let after = after_load(*machine, table, schedule);
-    *machine = after.machine;
-    *place = after.place;
-    after.number
+    let answer = machine::lists::load(
+        &mut machine.loaded,
+        &mut machine.hyper,
+        &mut machine.tick,
+        &mut machine.periods,
+        &mut machine.starts,
+        &mut machine.ends,
+        &mut machine.counts,
+        &mut machine.reads,
+        &mut machine.writes,
+        &mut machine.uses,
+        &mut machine.defaults,
+        &mut machine.carried,
+        &mut machine.held,
+        &mut machine.store,
+        table,
+        schedule,
+    );
+    let told = numbers_of(answer);
+    *place = told.place;
+    told.number
 }
 
 // The next tick: 0, or 25.

@@ -1,23 +1,15 @@
 // The machine that runs a table with a schedule tick by tick. After loading it needs neither of them again.
 pub mod lists;
 
-use answers::DONE;
-use answers::number;
-use records::grid::read_grid;
 use rows::CELLS;
 use rows::NONE;
 use rules::Answer;
 use rules::MOST_SIGNALS;
 use rules::MOST_TASKS;
 use rules::MOST_USES;
-use rules::Signals;
-use rules::Tasks;
 use rules::WORDS;
-use table::read_table;
-use verdict::check_with;
 ghost use mathlib.Core.Path.{_≡_};
 ghost use Rattle.machine.specs.Calls.{unloaded, stepOf, readOf, writeOf};
-ghost use Rattle.machine.specs.Started.{given, started, Checked};
 ghost use Rattle.machine.specs.Load.{Loads};
 
 #[repr(C)]
@@ -80,25 +72,56 @@ impl Machine {
     pub fn load<'a>(self, table: &'a [u8], schedule: &'a [u8]) -> Stepped
         ensures { λ r. ⌜ Loads self (now (table .entry)) (now (schedule .entry)) r ⌝ }
     {
-        let read = read_table(table);
-        let refusal = read.answer;
-        if number(refusal) != DONE {
-            return Stepped {
-                answer: refusal,
-                machine: self,
-            };
-        }
-        let grid = read_grid(table);
-        let answer = check_with(read, &grid, schedule);
-        if number(answer) != DONE {
-            return Stepped {
-                answer: answer,
-                machine: self,
-            };
-        }
+        let mut loaded = self.loaded;
+        let mut hyper = self.hyper;
+        let mut tick = self.tick;
+        let mut periods = self.periods;
+        let mut starts = self.starts;
+        let mut ends = self.ends;
+        let mut counts = self.counts;
+        let mut reads = self.reads;
+        let mut writes = self.writes;
+        let mut uses = self.uses;
+        let mut defaults = self.defaults;
+        let mut carried = self.carried;
+        let mut held = self.held;
+        let mut store = self.store;
+        let answer = lists::load(
+            &mut loaded,
+            &mut hyper,
+            &mut tick,
+            &mut periods,
+            &mut starts,
+            &mut ends,
+            &mut counts,
+            &mut reads,
+            &mut writes,
+            &mut uses,
+            &mut defaults,
+            &mut carried,
+            &mut held,
+            &mut store,
+            table,
+            schedule,
+        );
         Stepped {
             answer: answer,
-            machine: start(read.tasks, read.signals, &grid, read.hyper, schedule),
+            machine: Machine {
+                loaded: loaded,
+                hyper: hyper,
+                tick: tick,
+                periods: periods,
+                starts: starts,
+                ends: ends,
+                counts: counts,
+                reads: reads,
+                writes: writes,
+                uses: uses,
+                defaults: defaults,
+                carried: carried,
+                held: held,
+                store: store,
+            },
         }
     }
 
@@ -184,75 +207,5 @@ impl Machine {
             answer: answer,
             machine: next,
         }
-    }
-}
-
-// Loading after its checks: the block zeroed, every element filled with its default, tick 0 opened.
-fn start<'a>(
-    tasks: Tasks,
-    signals: Signals,
-    grid: &'a [[u8; MOST_SIGNALS]; MOST_TASKS],
-    hyper: u32,
-    schedule: &'a [u8],
-) -> Machine
-    requires { ⌜ Checked (given tasks signals (now grid) hyper (now schedule)) ⌝ }
-    ensures { λ r. ⌜ r ≡ started (given tasks signals (now (grid .entry)) hyper (now (schedule .entry))) ⌝ }
-{
-    let mut periods = [0u32; MOST_TASKS];
-    let mut starts = [0u32; MOST_TASKS];
-    let mut ends = [0u32; MOST_TASKS];
-    let mut counts = [0u32; MOST_TASKS];
-    loading::load_windows(
-        &mut periods,
-        &mut starts,
-        &mut ends,
-        &mut counts,
-        tasks,
-        hyper,
-    );
-    let mut writes = [NONE; CELLS];
-    let mut reads = [NONE; CELLS];
-    let mut uses = [NONE; MOST_USES];
-    let mut carried = [NONE; MOST_SIGNALS];
-    let mut store = [0u32; WORDS];
-    let defaults = signals.defaults;
-    loading::load_signals(
-        &mut writes,
-        &mut reads,
-        &mut uses,
-        &mut carried,
-        &mut store,
-        grid,
-        &counts,
-        &defaults,
-        schedule,
-        tasks.count,
-        signals.count,
-    );
-    rows::open_all(
-        &mut store,
-        &periods,
-        &starts,
-        &counts,
-        &writes,
-        &uses,
-        &defaults,
-        0,
-    );
-    Machine {
-        loaded: true,
-        hyper: hyper,
-        tick: 0,
-        periods: periods,
-        starts: starts,
-        ends: ends,
-        counts: counts,
-        reads: reads,
-        writes: writes,
-        uses: uses,
-        defaults: defaults,
-        carried: carried,
-        held: carried,
-        store: store,
     }
 }

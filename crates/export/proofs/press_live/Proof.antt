@@ -53,8 +53,8 @@ use Rattle.lives.proofs.live_list.Symbol as listing-def
 use Rattle.lives.proofs.live_list.Symbol.{name as #lives·live-list}
 use Rattle.lives.proofs.live_list.Met as listing-thm
 use Rattle.export.specs.declared.Numbered.{Numbered}
-use Rattle.export.specs.After.{numbered}
-use Rattle.export.proofs.Lent.{takes, puts, answers}
+use Rattle.export.specs.Numbers.{numbered}
+use Rattle.export.proofs.Lent.{takes, puts, answers, Numbers, to-numbers, asks-numbers}
 use Rattle.export.proofs.Numbered as N
 use Rattle.export.proofs.Numbered.Laws as N′
 use Rattle.export.proofs.numbers_of as numbering
@@ -72,13 +72,9 @@ R = T.the-row
 abbrev stayed : Stays (live′.ended .signature .params) (live′.ended .kept)
 stayed = (stay-none-slice (0 ∷ []) tt (plain (λ _. u8)) yes, (stay-none (λ _. usize) yes, (gave-slice (1 ∷ []) tt (plain (λ _. R)), (stay-ref (2 ∷ []) tt (plain (λ _. usize)), tt))))
 
-module _ {M : Type 1} (𝓤 : URA M) (H : Heap 𝓤) (A : Atoms 𝓤) (mem : Memory → SProp 𝓤) (run : Routine → Fun 𝓤) where
-  -- the contracts that the proof cites
-  abbrev Listing : Contract 𝓤
-  Listing = tripleOf 𝓤 H A listing.signature (listing.spec 𝓤 H A mem run)
-
-  abbrev Numbering : Contract 𝓤
-  Numbering = tripleOf 𝓤 H A numbering.signature (numbering.spec 𝓤 H A mem run)
+-- the contract that the proof cites, beside `numbers_of`'s
+abbrev Listing : {M : Type 1} (𝓤 : URA M) (H : Heap 𝓤) (A : Atoms 𝓤) (mem : Memory → SProp 𝓤) (run : Routine → Fun 𝓤) → Contract 𝓤
+Listing 𝓤 H A mem run = tripleOf 𝓤 H A listing.signature (listing.spec 𝓤 H A mem run)
 
 module _ {M : Type 1} (𝓤 : URA M) (H : Heap 𝓤) (A : Atoms 𝓤) (W : Given 𝓤 H A) (at-mem : Memory → SProp 𝓤) (run : Routine → Fun 𝓤) (κ₀ κ₁ κ₂ : Lft) (q₀ q₁ q₂ : Share)
     (table : RefT (List ℕ)) (i : ℕ) (b o : ℕ) (γ : GName) (ys : List LiveValue) (b′ o′ : ℕ) (γ′ : GName) (p : ℕ) (i-fits : i < 2 ^ 64) where
@@ -139,14 +135,7 @@ module _ {M : Type 1} (𝓤 : URA M) (H : Heap 𝓤) (A : Atoms 𝓤) (W : Given
   goes : ent 𝓤 (⋆ 𝓤 H A ((‵ (flft κ₀ q₀) ⊛ ‵ (flft κ₁ q₁) ⊛ ‵ ftrue) ∷ ‵ (owns (ShrSlice (named 0) κ₀ u8 ∷ usize ∷ MutSlice (named 1) κ₁ R ∷ []) passed handed) ∷ [])) (Listing 𝓤 H A at-mem run .pre to)
   goes = qed W ((‵ (flft κ₀ q₀) ⊛ ‵ (flft κ₁ q₁) ⊛ ‵ ftrue) ∷ ‵ (owns (ShrSlice (named 0) κ₀ u8 ∷ usize ∷ MutSlice (named 1) κ₁ R ∷ []) passed handed) ∷ []) ∵ join ! $ frame ! $ done !
 
-  -- ---- the call of `numbers_of`: it is handed facts only
-  abbrev to-numbers : Answer → Val → Numbering 𝓤 H A at-mem run .Ghost
-  to-numbers r u = ((tt, tt, tt, (r, tt), (u ∷ [], tt)), tt)
-
-  asks : (r : Answer) (u : Val) → Is S.the-row r (u ∷ []) → ent 𝓤 (emp 𝓤) (Numbering 𝓤 H A at-mem run .pre (to-numbers r u))
-  asks r u is = qed W [] ∵ nothing ! $ nothing ! $ owned ! S.the-row (Is S.the-row) (EL.makes S.the-type S′.the-plain 𝓤 H A) r _ is $ fjoin ! $ move ! (1 ∷ 0 ∷ []) $ join ! $ frame ! $ done !
-
-  module _ (C : Calls 𝓤 H) (Λ : Loops 𝓤 H) (fm : FmC 𝓤 H (W .laws) C) (known-list : Triple 𝓤 (C #lives·live-list) (Listing 𝓤 H A at-mem run)) (known-numbers : Triple 𝓤 (C #export·numbers-of) (Numbering 𝓤 H A at-mem run)) where
+  module _ (C : Calls 𝓤 H) (Λ : Loops 𝓤 H) (fm : FmC 𝓤 H (W .laws) C) (known-list : Triple 𝓤 (C #lives·live-list) (Listing 𝓤 H A at-mem run)) (known-numbers : Triple 𝓤 (C #export·numbers-of) (Numbers 𝓤 H A at-mem run)) where
     walk : Is (ShrSlice (named 0) κ₀ u8) table (bytes ∷ []) → Room R (length ys)
         → ent 𝓤 (onEntry 𝓤 H A live′.signature (κ₀, (κ₁, (κ₂, tt))) (q₀, (q₁, (q₂, tt))) x at) (WpFn 𝓤 H C Λ code.function (bytes ∷ vint w64 i ∷ rows ∷ vptr b′ o′ ∷ []) Post)
     walk table-is room =
@@ -173,8 +162,8 @@ module _ {M : Type 1} (𝓤 : URA M) (H : Heap 𝓤) (A : Atoms 𝓤) (W : Given
         move ! (2 ∷ []) $ split ! $ move ! (1 ∷ []) $ peeks ! S.the-row (Is S.the-row) (shows 𝓤 H A S.the-row) r (u ∷ []) (λ is. drop ! $
         -- [the two tokens; the last list; true; table; _8; …; _7; …; room for _6; …; room for _5; …; _4; …; _3; …; _2; …; _1; …; room for _0; …; place's obs, borrow and token]
         land ! (from ! (stop !)) (init ! 10 refl (EL.lawful S.the-type S′.the-laws 𝓤 H A W tt .typed r _ is .0)) $
-        use0 W (raw (Numbering 𝓤 H A at-mem run .pre (to-numbers r u))) (asks r u is) $
-        calls-at ! fm (Numbering 𝓤 H A at-mem run) known-numbers (to-numbers r u) (and-then ! (load ! (from ! (stop !)) (look ! 11 refl)) (no-more !)) (λ v.
+        use0 W (raw (Numbers 𝓤 H A at-mem run .pre (to-numbers 𝓤 H A at-mem run r u))) (asks-numbers 𝓤 H A at-mem run W r u is) $
+        calls-at ! fm (Numbers 𝓤 H A at-mem run) known-numbers (to-numbers 𝓤 H A at-mem run r u) (and-then ! (load ! (from ! (stop !)) (look ! 11 refl)) (no-more !)) (λ v.
         answers ! tt (‵ ftrue) N.the-row v (lasts numbering.ended tt (r, tt)) (Taken r) (λ n d given. drop ! $
         land ! (from ! (stop !)) (init ! 8 refl (LL.lawful N.the-type N′.the-laws 𝓤 H A W .typed n _ given .0)) $
         rewrite ! 8 (λ (w : Val). ‵ (fat fullShare N′.mir l₆ 0 w)) (ap only (LL.tells N.the-type N′.the-laws n (v ∷ []) given)) refl $
@@ -196,7 +185,7 @@ module _ {M : Type 1} (𝓤 : URA M) (H : Heap 𝓤) (A : Atoms 𝓤) (W : Given
         place-fits n v given = LL.owed N.the-type N′.the-laws n (v ∷ []) given .1 .0 .1
 
 module _ {M : Type 1} (𝓤 : URA M) (H : Heap 𝓤) (A : Atoms 𝓤) (W : Given 𝓤 H A) (mem : Memory → SProp 𝓤) (run : Routine → Fun 𝓤) where
-  live-walks : (C : Calls 𝓤 H) (Λ : Loops 𝓤 H) → FmC 𝓤 H (W .laws) C → Triple 𝓤 (C #lives·live-list) (Listing 𝓤 H A mem run) → Triple 𝓤 (C #export·numbers-of) (Numbering 𝓤 H A mem run)
+  live-walks : (C : Calls 𝓤 H) (Λ : Loops 𝓤 H) → FmC 𝓤 H (W .laws) C → Triple 𝓤 (C #lives·live-list) (Listing 𝓤 H A mem run) → Triple 𝓤 (C #export·numbers-of) (Numbers 𝓤 H A mem run)
       → Walks 𝓤 H A live′.ended stayed (WpFn 𝓤 H C Λ code.function) (live′.clauses 𝓤 H A mem run)
   live-walks C Λ fm known-list known-numbers = walked 𝓤 H A live′.ended stayed (live′.clauses 𝓤 H A mem run) (WpFn 𝓤 H C Λ code.function)
       (λ κs. (slice-vals, (uint-vals w64, (slice-vals, (ptr-vals, tt)))))
@@ -206,7 +195,7 @@ module _ {M : Type 1} (𝓤 : URA M) (H : Heap 𝓤) (A : Atoms 𝓤) (W : Given
       (a .1 .1 .1 .0 .ptr .0) (a .1 .1 .1 .0 .ptr .1) (a .1 .1 .1 .0 .name) (a .1 .1 .1 .0 .now) (are .1 .0 .1) C Λ fm known-list known-numbers (are .0) (are .1 .1 .0 .0 .1)))
 
 live-meets : {M : Type 1} (𝓤 : URA M) (H : Heap 𝓤) (A : Atoms 𝓤) (W : Given 𝓤 H A) (mem : Memory → SProp 𝓤) (run : Routine → Fun 𝓤) (𝓣 : Tables 𝓤 H)
-    → Triple 𝓤 (𝓣 .C #lives·live-list) (Listing 𝓤 H A mem run) → Triple 𝓤 (𝓣 .C #export·numbers-of) (Numbering 𝓤 H A mem run)
+    → Triple 𝓤 (𝓣 .C #lives·live-list) (Listing 𝓤 H A mem run) → Triple 𝓤 (𝓣 .C #export·numbers-of) (Numbers 𝓤 H A mem run)
     → Meets 𝓤 H A live′.signature (WpFn 𝓤 H (𝓣 .C) (𝓣 .Λ) code.function) (live′.spec 𝓤 H A mem run)
 live-meets 𝓤 H A W mem run 𝓣 known-list known-numbers =
     walk-meets 𝓤 H A live′.ended stayed W
@@ -220,4 +209,4 @@ press-live-spec 𝓤 H 𝓜 𝓖 𝓡 =
     (tables 𝓤 H 𝓜 𝓡 code.env .C) (tables 𝓤 H 𝓜 𝓡 code.env .Λ) #export·press-live code.function (code.unfolded 𝓤 H 𝓜 𝓡)
     (live-meets 𝓤 H (𝓖 .A) (givenOf 𝓤 H 𝓜 𝓖) (𝓜 .mem) (𝓡 .run) (tablesOf 𝓤 H 𝓜 (tables 𝓤 H 𝓜 𝓡 code.env))
     (cited 𝓤 H (Listing 𝓤 H (𝓖 .A) (𝓜 .mem) (𝓡 .run)) 𝓜 𝓡 code.env #lives·live-list listing-def.routine code.calls-lives·live-list (listing-thm.met 𝓤 H 𝓜 𝓖 𝓡))
-    (cited 𝓤 H (Numbering 𝓤 H (𝓖 .A) (𝓜 .mem) (𝓡 .run)) 𝓜 𝓡 code.env #export·numbers-of numbering-def.routine code.calls-export·numbers-of (numbering-thm.met 𝓤 H 𝓜 𝓖 𝓡)))
+    (cited 𝓤 H (Numbers 𝓤 H (𝓖 .A) (𝓜 .mem) (𝓡 .run)) 𝓜 𝓡 code.env #export·numbers-of numbering-def.routine code.calls-export·numbers-of (numbering-thm.met 𝓤 H 𝓜 𝓖 𝓡)))

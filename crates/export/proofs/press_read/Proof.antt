@@ -13,10 +13,9 @@ use prog.Memory.{Memory}
 use prog.Routine.{Routine}
 use prog.Wp.{Heap, Calls, Loops, WpFn, Tables}
 use ghost.Atoms.{Atoms}
-use contract.Lifetimes.{Lfts}
 use contract.Monad.{Fun}
 use contract.Running.{givenOf, tables, tablesOf}
-use types.Kit.{Given, ‵, raw, _⊛_, ⋆, some, later, _$_, _∵_, !, qed, by, move, keep, drop, use0, use1, use2, use3, split, join, pick, rewrite, fsplit, fsplit3, fjoin, fjoin3, feqI, suffices, frame, await, done}
+use types.Kit.{Given, ‵, raw, _⊛_, ⋆, some, later, _$_, _∵_, !, qed, by, move, keep, drop, use0, use2, use3, split, join, pick, rewrite, fsplit, fsplit3, fjoin, fjoin3, feqI, suffices, frame, await, done}
 use types.Run.{look, init, store, forget, stop, hop, fld, from, load, addr, of-opd, and-then, no-more, assigns, land, returns, enter, alloc1, alloc0, params1, pass1, pass0, free1, free0}
 use types.Part.{whole, sub, look-in}
 use types.SemTy.{Body}
@@ -62,9 +61,9 @@ use Rattle.machine.proofs.lists.read as reading
 use Rattle.machine.proofs.lists.read.Symbol as reading-def
 use Rattle.machine.proofs.lists.read.Symbol.{name as #machine·lists·read}
 use Rattle.machine.proofs.lists.read.Met as reading-thm
-use Rattle.export.proofs.Fields.{Whole, kept, shared, Part, Names, Lasts, refs, atFields, ptrs, kept-back, lends-fields, fields-back}
+use Rattle.export.proofs.Fields.{Whole, kept, shared, Part, Names, refs, atFields, ptrs, kept-back, lends-fields, fields-back}
 use Rattle.export.proofs.Parts.{machine-parts, members, values, WayBack, machine-apart, machine-whole}
-use Rattle.export.proofs.Lent.{takes, puts, tells, answers, machineVals, machine-tells, hyper-fits, tick-fits, Numbering, to-number, number-asks}
+use Rattle.export.proofs.Lent.{takes, puts, tells, answers, machineVals, machine-tells, hyper-fits, tick-fits, Number, to-number, asks-number}
 use Rattle.export.proofs.press_read.Key.{name as #export·press-read}
 use Rattle.export.proofs.press_read as read′
 use Rattle.export.proofs.press_read.Statement as stated
@@ -75,7 +74,7 @@ stayed = (stay-none-ref (0 ∷ []) tt (plain (λ _. T.the-row)) yes, (stay-none 
 
 -- what the call is given of each field, and after them
 abbrev parts : List Part
-parts = machine-parts kept (shared (named 0)) kept (shared (named 0)) (shared (named 0))
+parts = machine-parts kept kept (shared (named 0)) kept (shared (named 0)) (shared (named 0))
 
 abbrev rest : List RattleType
 rest = usize ∷ usize ∷ []
@@ -144,7 +143,7 @@ module _ {M : Type 1} (𝓤 : URA M) (H : Heap 𝓤) (A : Atoms 𝓤) (W : Given
     goes : ent 𝓤 (⋆ 𝓤 H A ((‵ (flft (ν ∷ []) fullShare) ⊛ ‵ ftrue) ∷ ‵ (owns params passed handed) ∷ [])) (Reading 𝓤 H A at-mem run .pre to)
     goes = qed W ((‵ (flft (ν ∷ []) fullShare) ⊛ ‵ ftrue) ∷ ‵ (owns params passed handed) ∷ []) ∵ join ! $ frame ! $ done !
 
-  module _ (C : Calls 𝓤 H) (Λ : Loops 𝓤 H) (fm : FmC 𝓤 H (W .laws) C) (known-read : Triple 𝓤 (C #machine·lists·read) (Reading 𝓤 H A at-mem run)) (known-number : Triple 𝓤 (C #answers·number) (Numbering 𝓤 H A at-mem run)) where
+  module _ (C : Calls 𝓤 H) (Λ : Loops 𝓤 H) (fm : FmC 𝓤 H (W .laws) C) (known-read : Triple 𝓤 (C #machine·lists·read) (Reading 𝓤 H A at-mem run)) (known-number : Triple 𝓤 (C #answers·number) (Number 𝓤 H A at-mem run)) where
     walk : ent 𝓤 (onEntry 𝓤 H A read′.signature (κ, (κ′, tt)) (q, (q′, tt)) x at) (WpFn 𝓤 H C Λ code.function (vptr b o ∷ vint w64 i ∷ vint w64 j ∷ vptr b′ o′ ∷ []) Post)
     walk =
         qed W ((‵ (flft κ q) ⊛ ‵ (flft κ′ q′) ⊛ ‵ ftrue) ∷ ‵ (owns (ShrRef (named 0) κ T.the-row ∷ usize ∷ usize ∷ MutRef (named 1) κ′ u32 ∷ []) x at) ∷ []) ∵ split ! $ move ! (1 ∷ []) $ split ! $
@@ -192,8 +191,8 @@ module _ {M : Type 1} (𝓤 : URA M) (H : Heap 𝓤) (A : Atoms 𝓤) (W : Given
         assigns ! (of-opd ! (load ! (from ! (fld ! refl (stop !))) (look-in ! 33 (sub ! 1 refl (whole !))))) (from ! (hop ! (look ! 35 refl) (stop !))) (store ! 0 refl (tt, record { fits = word-fits r u is })) $
         puts ! tt u32 (uint-vals w32) (uint-makes 𝓤 H A W w32) (r .word) (refl, word-fits r u is) b′ o′ $
         -- [obs; the borrow; word's token; machine's token; the shared borrow; _18; …; _5; …; _1; …; room for _0; …; res]
-        use0 W (raw (Numbering 𝓤 H A at-mem run .pre (to-number 𝓤 H A at-mem run (r .answer) (answerVal (r .answer))))) (number-asks 𝓤 H A at-mem run W (r .answer) (answerVal (r .answer)) (LL.owed F.the-type F′.the-laws r (u ∷ []) is .0)) $
-        calls-at ! fm (Numbering 𝓤 H A at-mem run) known-number (to-number 𝓤 H A at-mem run (r .answer) (answerVal (r .answer))) (and-then ! (load ! (from ! (fld ! refl (stop !))) (look-in ! 32 (sub ! 0 refl (whole !)))) (no-more !)) (λ v.
+        use0 W (raw (Number 𝓤 H A at-mem run .pre (to-number 𝓤 H A at-mem run (r .answer) (answerVal (r .answer))))) (asks-number 𝓤 H A at-mem run W (r .answer) (answerVal (r .answer)) (LL.owed F.the-type F′.the-laws r (u ∷ []) is .0)) $
+        calls-at ! fm (Number 𝓤 H A at-mem run) known-number (to-number 𝓤 H A at-mem run (r .answer) (answerVal (r .answer))) (and-then ! (load ! (from ! (fld ! refl (stop !))) (look-in ! 32 (sub ! 0 refl (whole !)))) (no-more !)) (λ v.
         answers ! tt (‵ ftrue) u8 v (lasts numbering.ended tt (r .answer, tt)) (Taken (r .answer)) (λ n d taken. drop ! $
         land ! (from ! (stop !)) (init ! 41 refl (uint-lawful 𝓤 H A W w8 .typed n _ taken .0)) $
         returns ! (look ! 41 refl) $ forget ! 5 refl $ forget ! 7 refl $ forget ! 9 refl $ forget ! 11 refl $ forget ! 13 refl $ forget ! 15 refl $ forget ! 17 refl $ forget ! 19 refl $ forget ! 21 refl $ forget ! 23 refl $ forget ! 25 refl $ forget ! 27 refl $ forget ! 29 refl $ forget ! 31 refl $ forget ! 33 refl $ forget ! 35 refl $ forget ! 37 refl $ forget ! 39 refl $ forget ! 41 refl $
@@ -211,7 +210,7 @@ module _ {M : Type 1} (𝓤 : URA M) (H : Heap 𝓤) (A : Atoms 𝓤) (W : Given
         word-fits r u is = LL.owed F.the-type F′.the-laws r (u ∷ []) is .1 .0 .1
 
 module _ {M : Type 1} (𝓤 : URA M) (H : Heap 𝓤) (A : Atoms 𝓤) (W : Given 𝓤 H A) (mem : Memory → SProp 𝓤) (run : Routine → Fun 𝓤) where
-  read-walks : (C : Calls 𝓤 H) (Λ : Loops 𝓤 H) → FmC 𝓤 H (W .laws) C → Triple 𝓤 (C #machine·lists·read) (Reading 𝓤 H A mem run) → Triple 𝓤 (C #answers·number) (Numbering 𝓤 H A mem run)
+  read-walks : (C : Calls 𝓤 H) (Λ : Loops 𝓤 H) → FmC 𝓤 H (W .laws) C → Triple 𝓤 (C #machine·lists·read) (Reading 𝓤 H A mem run) → Triple 𝓤 (C #answers·number) (Number 𝓤 H A mem run)
       → Walks 𝓤 H A read′.ended stayed (WpFn 𝓤 H C Λ code.function) (read′.clauses 𝓤 H A mem run)
   read-walks C Λ fm known-read known-number = walked 𝓤 H A read′.ended stayed (read′.clauses 𝓤 H A mem run) (WpFn 𝓤 H C Λ code.function)
       (λ κs. (ptr-vals, (uint-vals w64, (uint-vals w64, (ptr-vals, tt)))))
@@ -219,7 +218,7 @@ module _ {M : Type 1} (𝓤 : URA M) (H : Heap 𝓤) (A : Atoms 𝓤) (W : Given
       (λ κs qs bounds a g are. via 𝓤 _ (fst∗ 𝓤 _ (emp 𝓤))
       (walk 𝓤 H A W mem run (κs .0) (κs .1 .0) (qs .0) (qs .1 .0) (a .0 .ptr .0) (a .0 .ptr .1) (a .0 .name) (a .0 .now) (a .1 .0) (a .1 .1 .0) (a .1 .1 .1 .0 .ptr .0) (a .1 .1 .1 .0 .ptr .1) (a .1 .1 .1 .0 .name) (a .1 .1 .1 .0 .now) (are .1 .0 .1) (are .1 .1 .0 .1) C Λ fm known-read known-number))
 
-read-meets : {M : Type 1} (𝓤 : URA M) (H : Heap 𝓤) (A : Atoms 𝓤) (W : Given 𝓤 H A) (mem : Memory → SProp 𝓤) (run : Routine → Fun 𝓤) (𝓣 : Tables 𝓤 H) → Triple 𝓤 (𝓣 .C #machine·lists·read) (Reading 𝓤 H A mem run) → Triple 𝓤 (𝓣 .C #answers·number) (Numbering 𝓤 H A mem run)
+read-meets : {M : Type 1} (𝓤 : URA M) (H : Heap 𝓤) (A : Atoms 𝓤) (W : Given 𝓤 H A) (mem : Memory → SProp 𝓤) (run : Routine → Fun 𝓤) (𝓣 : Tables 𝓤 H) → Triple 𝓤 (𝓣 .C #machine·lists·read) (Reading 𝓤 H A mem run) → Triple 𝓤 (𝓣 .C #answers·number) (Number 𝓤 H A mem run)
     → Meets 𝓤 H A read′.signature (WpFn 𝓤 H (𝓣 .C) (𝓣 .Λ) code.function) (read′.spec 𝓤 H A mem run)
 read-meets 𝓤 H A W mem run 𝓣 known-read known-number =
     walk-meets 𝓤 H A read′.ended stayed W (goes-none-ref 𝓤 H A W 2 (0 ∷ []) tt (plain (λ _. T.the-row)) yes, (goes-none 𝓤 H A W 2 (λ _. usize) yes (λ κs x f. refl), (goes-none 𝓤 H A W 2 (λ _. usize) yes (λ κs x f. refl), (goes-ref 𝓤 H A W 2 1 tt (plain (λ _. u32)), tt)))) (read′.clauses 𝓤 H A mem run)
@@ -232,4 +231,4 @@ press-read-spec 𝓤 H 𝓜 𝓖 𝓡 =
     (tables 𝓤 H 𝓜 𝓡 code.env .C) (tables 𝓤 H 𝓜 𝓡 code.env .Λ) #export·press-read code.function (code.unfolded 𝓤 H 𝓜 𝓡)
     (read-meets 𝓤 H (𝓖 .A) (givenOf 𝓤 H 𝓜 𝓖) (𝓜 .mem) (𝓡 .run) (tablesOf 𝓤 H 𝓜 (tables 𝓤 H 𝓜 𝓡 code.env))
     (cited 𝓤 H (Reading 𝓤 H (𝓖 .A) (𝓜 .mem) (𝓡 .run)) 𝓜 𝓡 code.env #machine·lists·read reading-def.routine code.calls-machine·lists·read (reading-thm.met 𝓤 H 𝓜 𝓖 𝓡))
-    (cited 𝓤 H (Numbering 𝓤 H (𝓖 .A) (𝓜 .mem) (𝓡 .run)) 𝓜 𝓡 code.env #answers·number numbering-def.routine code.calls-answers·number (numbering-thm.met 𝓤 H 𝓜 𝓖 𝓡)))
+    (cited 𝓤 H (Number 𝓤 H (𝓖 .A) (𝓜 .mem) (𝓡 .run)) 𝓜 𝓡 code.env #answers·number numbering-def.routine code.calls-answers·number (numbering-thm.met 𝓤 H 𝓜 𝓖 𝓡)))

@@ -60,7 +60,7 @@ use Rattle.machine.proofs.lists.write.Symbol.{name as #machine·lists·write}
 use Rattle.machine.proofs.lists.write.Met as writing-thm
 use Rattle.export.proofs.Fields.{Whole, kept, shared, changed, Part, Names, Lasts, refs, atFields, ptrs, kept-back, lends-fields, fields-back}
 use Rattle.export.proofs.Parts.{machine-parts, members, values, WayBack, machine-apart, machine-whole, half, other, Two, in-two, of-two}
-use Rattle.export.proofs.Lent.{takes, tells, answers, machineVals, machine-tells, hyper-fits, tick-fits, Numbering, to-number, number-asks}
+use Rattle.export.proofs.Lent.{takes, tells, answers, machineVals, machine-tells, hyper-fits, tick-fits, Number, to-number, asks-number}
 use Rattle.export.proofs.press_write.Key.{name as #export·press-write}
 use Rattle.export.proofs.press_write as write′
 use Rattle.export.proofs.press_write.Statement as stated
@@ -71,7 +71,7 @@ stayed = (stay-ref (0 ∷ []) tt (plain (λ _. T.the-row)), (stay-none (λ _. us
 
 -- what the call is given of each field, and after them
 abbrev parts : List Part
-parts = machine-parts kept (shared (named 0)) kept (shared (named 0)) (changed (named 1))
+parts = machine-parts kept kept (shared (named 0)) kept (shared (named 0)) (changed (named 1))
 
 abbrev rest : List RattleType
 rest = usize ∷ usize ∷ u32 ∷ []
@@ -148,7 +148,7 @@ module _ {M : Type 1} (𝓤 : URA M) (H : Heap 𝓤) (A : Atoms 𝓤) (W : Given
     goes : ent 𝓤 (⋆ 𝓤 H A (Two 𝓤 H A W (ν ∷ []) ∷ ‵ (owns params passed handed) ∷ [])) (Writing 𝓤 H A at-mem run .pre to)
     goes = qed W (Two 𝓤 H A W (ν ∷ []) ∷ ‵ (owns params passed handed) ∷ []) ∵ join ! $ frame ! $ done !
 
-  module _ (C : Calls 𝓤 H) (Λ : Loops 𝓤 H) (fm : FmC 𝓤 H (W .laws) C) (known-write : Triple 𝓤 (C #machine·lists·write) (Writing 𝓤 H A at-mem run)) (known-number : Triple 𝓤 (C #answers·number) (Numbering 𝓤 H A at-mem run)) where
+  module _ (C : Calls 𝓤 H) (Λ : Loops 𝓤 H) (fm : FmC 𝓤 H (W .laws) C) (known-write : Triple 𝓤 (C #machine·lists·write) (Writing 𝓤 H A at-mem run)) (known-number : Triple 𝓤 (C #answers·number) (Number 𝓤 H A at-mem run)) where
     walk : ent 𝓤 (onEntry 𝓤 H A write′.signature (κ, tt) (q, tt) x at) (WpFn 𝓤 H C Λ code.function (vptr b o ∷ vint w64 i ∷ vint w64 j ∷ vint w32 w ∷ []) Post)
     walk =
         qed W ((‵ (flft κ q) ⊛ ‵ ftrue) ∷ ‵ (owns (MutRef (named 0) κ T.the-row ∷ usize ∷ usize ∷ u32 ∷ []) x at) ∷ []) ∵ split ! $ move ! (2 ∷ []) $ fsplit ! $ fsplit3 ! $ drop ! $ keep ! (0 ∷ 1 ∷ 3 ∷ []) $
@@ -188,8 +188,8 @@ module _ {M : Type 1} (𝓤 : URA M) (H : Heap 𝓤) (A : Atoms 𝓤) (W : Given
         use3 W (later (‵ (partsAt fullShare members 0 (values (after h (ws .1 .1 .1))) b o))) (fields-back 𝓤 H A W (ν ∷ []) fullShare b o Rest no-more-said parts 0 γs (values h) (ws .1 .1 .1) all-whole) $ await ! tt $
         use2 W (‵ (partAt T.the-row fullShare (after h (ws .1 .1 .1)) b o)) (machine-whole 𝓤 H A W fullShare b o (after h (ws .1 .1 .1))) $ close-ref ! tt (mem T.the-row) (after h (ws .1 .1 .1)) $
         -- [obs; the borrow; the token; _18; …; _5; …; _1; …; room for _0; …]
-        use0 W (raw (Numbering 𝓤 H A at-mem run .pre (to-number 𝓤 H A at-mem run r u))) (number-asks 𝓤 H A at-mem run W r u is) $
-        calls-at ! fm (Numbering 𝓤 H A at-mem run) known-number (to-number 𝓤 H A at-mem run r u) (and-then ! (load ! (from ! (stop !)) (look ! 30 refl)) (no-more !)) (λ v.
+        use0 W (raw (Number 𝓤 H A at-mem run .pre (to-number 𝓤 H A at-mem run r u))) (asks-number 𝓤 H A at-mem run W r u is) $
+        calls-at ! fm (Number 𝓤 H A at-mem run) known-number (to-number 𝓤 H A at-mem run r u) (and-then ! (load ! (from ! (stop !)) (look ! 30 refl)) (no-more !)) (λ v.
         answers ! tt (‵ ftrue) u8 v (lasts numbering.ended tt (r, tt)) (Taken r) (λ n d taken. drop ! $
         land ! (from ! (stop !)) (init ! 39 refl (uint-lawful 𝓤 H A W w8 .typed n _ taken .0)) $
         returns ! (look ! 39 refl) $ forget ! 3 refl $ forget ! 5 refl $ forget ! 7 refl $ forget ! 9 refl $ forget ! 11 refl $ forget ! 13 refl $ forget ! 15 refl $ forget ! 17 refl $ forget ! 19 refl $ forget ! 21 refl $ forget ! 23 refl $ forget ! 25 refl $ forget ! 27 refl $ forget ! 29 refl $ forget ! 31 refl $ forget ! 33 refl $ forget ! 35 refl $ forget ! 37 refl $ forget ! 39 refl $
@@ -200,14 +200,14 @@ module _ {M : Type 1} (𝓤 : URA M) (H : Heap 𝓤) (A : Atoms 𝓤) (W : Given
         all-whole = (tt, (tt, (tt, (tt, (tt, (tt, (tt, (tt, (tt, (tt, (tt, (tt, (tt, (refl, tt))))))))))))))
 
 module _ {M : Type 1} (𝓤 : URA M) (H : Heap 𝓤) (A : Atoms 𝓤) (W : Given 𝓤 H A) (mem : Memory → SProp 𝓤) (run : Routine → Fun 𝓤) where
-  write-walks : (C : Calls 𝓤 H) (Λ : Loops 𝓤 H) → FmC 𝓤 H (W .laws) C → Triple 𝓤 (C #machine·lists·write) (Writing 𝓤 H A mem run) → Triple 𝓤 (C #answers·number) (Numbering 𝓤 H A mem run)
+  write-walks : (C : Calls 𝓤 H) (Λ : Loops 𝓤 H) → FmC 𝓤 H (W .laws) C → Triple 𝓤 (C #machine·lists·write) (Writing 𝓤 H A mem run) → Triple 𝓤 (C #answers·number) (Number 𝓤 H A mem run)
       → Walks 𝓤 H A write′.ended stayed (WpFn 𝓤 H C Λ code.function) (write′.clauses 𝓤 H A mem run)
   write-walks C Λ fm known-write known-number = walked 𝓤 H A write′.ended stayed (write′.clauses 𝓤 H A mem run) (WpFn 𝓤 H C Λ code.function)
       (λ κs. (ptr-vals, (uint-vals w64, (uint-vals w64, (uint-vals w32, tt)))))
       (λ κs. (mut-tells (named 0) (κs .0) T.the-row, (uint-tells w64, (uint-tells w64, (uint-tells w32, tt)))))
       (λ κs qs bounds a g are. via 𝓤 _ (fst∗ 𝓤 _ (emp 𝓤)) (walk 𝓤 H A W mem run (κs .0) (qs .0) (a .0 .ptr .0) (a .0 .ptr .1) (a .0 .name) (a .0 .now) (a .1 .0) (a .1 .1 .0) (a .1 .1 .1 .0) (are .1 .0 .1) (are .1 .1 .0 .1) (are .1 .1 .1 .0 .1) C Λ fm known-write known-number))
 
-write-meets : {M : Type 1} (𝓤 : URA M) (H : Heap 𝓤) (A : Atoms 𝓤) (W : Given 𝓤 H A) (mem : Memory → SProp 𝓤) (run : Routine → Fun 𝓤) (𝓣 : Tables 𝓤 H) → Triple 𝓤 (𝓣 .C #machine·lists·write) (Writing 𝓤 H A mem run) → Triple 𝓤 (𝓣 .C #answers·number) (Numbering 𝓤 H A mem run)
+write-meets : {M : Type 1} (𝓤 : URA M) (H : Heap 𝓤) (A : Atoms 𝓤) (W : Given 𝓤 H A) (mem : Memory → SProp 𝓤) (run : Routine → Fun 𝓤) (𝓣 : Tables 𝓤 H) → Triple 𝓤 (𝓣 .C #machine·lists·write) (Writing 𝓤 H A mem run) → Triple 𝓤 (𝓣 .C #answers·number) (Number 𝓤 H A mem run)
     → Meets 𝓤 H A write′.signature (WpFn 𝓤 H (𝓣 .C) (𝓣 .Λ) code.function) (write′.spec 𝓤 H A mem run)
 write-meets 𝓤 H A W mem run 𝓣 known-write known-number =
     walk-meets 𝓤 H A write′.ended stayed W (goes-ref 𝓤 H A W 1 0 tt (plain (λ _. T.the-row)), (goes-none 𝓤 H A W 1 (λ _. usize) yes (λ κs x f. refl), (goes-none 𝓤 H A W 1 (λ _. usize) yes (λ κs x f. refl), (goes-none 𝓤 H A W 1 (λ _. u32) yes (λ κs x f. refl), tt)))) (write′.clauses 𝓤 H A mem run)
@@ -220,4 +220,4 @@ press-write-spec 𝓤 H 𝓜 𝓖 𝓡 =
     (tables 𝓤 H 𝓜 𝓡 code.env .C) (tables 𝓤 H 𝓜 𝓡 code.env .Λ) #export·press-write code.function (code.unfolded 𝓤 H 𝓜 𝓡)
     (write-meets 𝓤 H (𝓖 .A) (givenOf 𝓤 H 𝓜 𝓖) (𝓜 .mem) (𝓡 .run) (tablesOf 𝓤 H 𝓜 (tables 𝓤 H 𝓜 𝓡 code.env))
     (cited 𝓤 H (Writing 𝓤 H (𝓖 .A) (𝓜 .mem) (𝓡 .run)) 𝓜 𝓡 code.env #machine·lists·write writing-def.routine code.calls-machine·lists·write (writing-thm.met 𝓤 H 𝓜 𝓖 𝓡))
-    (cited 𝓤 H (Numbering 𝓤 H (𝓖 .A) (𝓜 .mem) (𝓡 .run)) 𝓜 𝓡 code.env #answers·number numbering-def.routine code.calls-answers·number (numbering-thm.met 𝓤 H 𝓜 𝓖 𝓡)))
+    (cited 𝓤 H (Number 𝓤 H (𝓖 .A) (𝓜 .mem) (𝓡 .run)) 𝓜 𝓡 code.env #answers·number numbering-def.routine code.calls-answers·number (numbering-thm.met 𝓤 H 𝓜 𝓖 𝓡)))

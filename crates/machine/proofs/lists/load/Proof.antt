@@ -3,8 +3,8 @@ use mathlib.Core.Path.{sym, _∙_}
 use borrow.Author.Needs.{needs}
 use Rattle.verdict.proofs.Loaded.{load-accepted, load-checked}
 use Rattle.machine.proofs.Load.{table-refused, refused-loads, both-checked, accepted-loads}
-use Rattle.machine.proofs.Machine.load.Statement.{statement}
-use Rattle.machine.proofs.Machine.load.Tie as tie
+use Rattle.machine.proofs.lists.load.Statement.{statement}
+use Rattle.machine.proofs.lists.load.Tie as tie
 
 returns : tie.Need-returns
 returns c =
@@ -29,7 +29,7 @@ returns-2 c =
 
 start-requires : tie.Need-start-requires
 start-requires c κs =
-    let passed = c .before in
+    let passed = c .before .before .before .before .before .before .before .before .before .before .before .before .before .before .before in
     let check = passed .before .before in
     let done = check .before .before .before in
     let read = done .before .before in
@@ -38,7 +38,7 @@ start-requires c κs =
 
 returns-3 : tie.Need-returns-3
 returns-3 c =
-    let passed = c .before .before in
+    let passed = c .before .before .before .before .before .before .before .before .before .before .before .before .before .before .before .before in
     let check = passed .before .before in
     let done = check .before .before .before in
     let read = done .before .before in
