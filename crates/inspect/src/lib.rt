@@ -1,8 +1,8 @@
 // The check of a schedule that was made elsewhere: its table, then the verdict with that table.
 use answers::DONE;
 use answers::number;
-use records::grid::read_grid;
 use rules::Answer;
+use sections::grid::read_grid;
 use table::read_table;
 use verdict::check_with;
 ghost use mathlib.Core.Path.{_≡_};

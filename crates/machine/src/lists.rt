@@ -2,7 +2,6 @@
 use crate::WordRead;
 use answers::DONE;
 use answers::number;
-use records::grid::read_grid;
 use rows::CELLS;
 use rows::NONE;
 use rows::Place;
@@ -13,6 +12,7 @@ use rules::MOST_USES;
 use rules::Signals;
 use rules::Tasks;
 use rules::WORDS;
+use sections::grid::read_grid;
 use table::read_table;
 use verdict::check_with;
 ghost use Prim.Native.Nat.{ℕ};

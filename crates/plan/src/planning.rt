@@ -1,7 +1,6 @@
 // Planning a table's bytes into a lent buffer.
 use crate::uses::plan_uses;
 use fields::wide;
-use records::grid::read_grid;
 use rules::Answer;
 use rules::MOST_SIGNALS;
 use rules::MOST_TASKS;
@@ -9,6 +8,7 @@ use rules::MOST_USES;
 use rules::Signals;
 use rules::Tasks;
 use rules::WORDS;
+use sections::grid::read_grid;
 use table::read_table;
 ghost use mathlib.Core.Path.{_≡_};
 ghost use Prim.Native.Nat.{_≤_};

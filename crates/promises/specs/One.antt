@@ -11,10 +11,10 @@ use Rattle.rules.specs.Records.{taskAt, signalAt, accessAt, endAt}
 use Rattle.rules.specs.declared.Access.{Access}
 use Rattle.rules.specs.declared.Answer.{Answer}
 use Rattle.records.specs.Said.{taskSaid, signalSaid, accessSaid, endSaid}
-use Rattle.records.specs.declared.records.TaskStep.{TaskStep}
-use Rattle.records.specs.declared.records.SignalStep.{SignalStep}
-use Rattle.records.specs.declared.records.AccessStep.{AccessStep}
-use Rattle.records.specs.declared.records.Ending.{Ending}
+use Rattle.records.specs.declared.TaskStep.{TaskStep}
+use Rattle.records.specs.declared.SignalStep.{SignalStep}
+use Rattle.records.specs.declared.AccessStep.{AccessStep}
+use Rattle.records.specs.declared.Ending.{Ending}
 use Rattle.plan.specs.Planning.{planTold, planOut}
 use Rattle.table.specs.declared.reading.TableRead.{TableRead}
 use Rattle.lives.specs.declared.LiveValue.{LiveValue}
@@ -60,15 +60,15 @@ pub record Determined : Type 1 where
   pub number : (a : Answer) → One (λ (n : ℕ). n ≡ told a .number)
   -- answers::place
   pub place : (a : Answer) → One (λ (n : ℕ). n ≡ told a .place)
-  -- records::reader::next_task, records::reader::task_at
+  -- reader::next_task, reader::task_at
   pub task : (bytes : List ℕ) (count at : ℕ) → One (λ (r : TaskStep). taskSaid r ≡ taskAt bytes count at)
-  -- records::reader::next_signal, records::reader::signal_at
+  -- reader::next_signal, reader::signal_at
   pub signal : (bytes : List ℕ) (count at : ℕ) → One (λ (r : SignalStep). signalSaid r ≡ signalAt bytes count at)
-  -- records::reader::next_access, records::reader::access_at
+  -- reader::next_access, reader::access_at
   pub access : (bytes : List ℕ) (tasks signals count : ℕ) (last : Access) (at : ℕ) → One (λ (r : AccessStep). accessSaid r ≡ accessAt bytes tasks signals count last at)
-  -- records::reader::next_end, records::reader::end_at
+  -- reader::next_end, reader::end_at
   pub end : (bytes : List ℕ) (at : ℕ) → One (λ (r : Ending). endSaid r ≡ endAt bytes at)
-  -- records::reader::new, records::reader::moved, records::reader::placed: the contract names the reader that is given
+  -- reader::new, reader::moved, reader::placed: the contract names the reader that is given
   pub reader : {Reader : Type 0} (given : Reader) → One (λ (r : Reader). r ≡ given)
   -- ---- the library for firmware: number, place, and what is lent
 

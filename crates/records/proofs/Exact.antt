@@ -1,23 +1,14 @@
 -- What an answer says determines it: two results that meet a contract are equal.
 use mathlib.Core.Path.{_≡_, refl, ap}
 use Rattle.rules.specs.Records.{Step, End}
-use Rattle.rules.specs.Reading.{Section}
 use Rattle.rules.specs.declared.Answer.{Answer}
-use Rattle.rules.specs.declared.Tasks.{Tasks}
-use Rattle.rules.specs.declared.Signals.{Signals}
-use Rattle.rules.specs.declared.Accesses.{Accesses}
 use Rattle.fields.proofs.Told.{exact, untold, untold-told}
-use Rattle.records.specs.Said.{taskSaid, signalSaid, accessSaid, endSaid, tasksSaid, signalsSaid, accessesSaid}
-use Rattle.records.specs.declared.records.Cursor.{Cursor}
-use Rattle.records.specs.declared.records.TaskStep.{TaskStep}
-use Rattle.records.specs.declared.records.SignalStep.{SignalStep}
-use Rattle.records.specs.declared.records.AccessStep.{AccessStep}
-use Rattle.records.specs.declared.records.Ending.{Ending}
-use Rattle.records.specs.declared.sections.TasksRead.{TasksRead}
-use Rattle.records.specs.declared.sections.SignalsRead.{SignalsRead}
-use Rattle.records.specs.declared.sections.AccessesRead.{AccessesRead}
-
--- ---- one record
+use Rattle.records.specs.Said.{taskSaid, signalSaid, accessSaid, endSaid}
+use Rattle.records.specs.declared.Cursor.{Cursor}
+use Rattle.records.specs.declared.TaskStep.{TaskStep}
+use Rattle.records.specs.declared.SignalStep.{SignalStep}
+use Rattle.records.specs.declared.AccessStep.{AccessStep}
+use Rattle.records.specs.declared.Ending.{Ending}
 
 -- the answer that a step comes from, by the constructors of its kind
 abbrev unstep : {A S : Type 0} → (A → Cursor → S) → S → (Answer → S) → Step A → S
@@ -59,14 +50,3 @@ access-exact = exact accessSaid (unstep AccessStep.Taken AccessStep.Other Access
 
 pub end-exact : (a b : Ending) → endSaid a ≡ endSaid b → a ≡ b
 end-exact = exact endSaid unend unend-said
-
--- ---- a section
-
-pub tasks-exact : (a b : TasksRead) → tasksSaid a ≡ tasksSaid b → a ≡ b
-tasks-exact a b e = λ i. record { tasks = e i .read; end = end-exact (a .end) (b .end) (ap (λ (s : Section Tasks). s .end) e) i }
-
-pub signals-exact : (a b : SignalsRead) → signalsSaid a ≡ signalsSaid b → a ≡ b
-signals-exact a b e = λ i. record { signals = e i .read; end = end-exact (a .end) (b .end) (ap (λ (s : Section Signals). s .end) e) i }
-
-pub accesses-exact : (a b : AccessesRead) → accessesSaid a ≡ accessesSaid b → a ≡ b
-accesses-exact a b e = λ i. record { accesses = e i .read; end = end-exact (a .end) (b .end) (ap (λ (s : Section Accesses). s .end) e) i }

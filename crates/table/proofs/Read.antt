@@ -10,11 +10,12 @@ use Rattle.rules.specs.declared.Answer.{Answer}
 use Rattle.rules.specs.declared.Tasks.{Tasks}
 use Rattle.rules.specs.declared.Signals.{Signals}
 use Rattle.rules.specs.declared.Accesses.{Accesses}
-use Rattle.records.specs.Said.{endSaid, tasksSaid, signalsSaid, accessesSaid}
-use Rattle.records.specs.declared.records.Ending.{Ending}
-use Rattle.records.specs.declared.sections.TasksRead.{TasksRead}
-use Rattle.records.specs.declared.sections.SignalsRead.{SignalsRead}
-use Rattle.records.specs.declared.sections.AccessesRead.{AccessesRead}
+use Rattle.records.specs.Said.{endSaid}
+use Rattle.sections.specs.Said.{tasksSaid, signalsSaid, accessesSaid}
+use Rattle.records.specs.declared.Ending.{Ending}
+use Rattle.sections.specs.declared.TasksRead.{TasksRead}
+use Rattle.sections.specs.declared.SignalsRead.{SignalsRead}
+use Rattle.sections.specs.declared.AccessesRead.{AccessesRead}
 use Rattle.table.specs.Forms.{timed}
 use Rattle.table.proofs.Says.{defaults-free, accepted-free}
 

@@ -1,14 +1,14 @@
 // Numbers 1 to 11: the sections one after the other, then the table as a whole.
 use crate::verdict::judge;
-use records::grid::read_grid;
-use records::records::Ending;
-use records::sections::read_accesses;
-use records::sections::read_end;
-use records::sections::read_signals;
-use records::sections::read_tasks;
+use records::Ending;
 use rules::Answer;
 use rules::Signals;
 use rules::Tasks;
+use sections::grid::read_grid;
+use sections::read_accesses;
+use sections::read_end;
+use sections::read_signals;
+use sections::read_tasks;
 ghost use mathlib.Core.Path.{_≡_};
 ghost use Rattle.rules.specs.Reading.{tableRead};
 ghost use Rattle.table.specs.Said.{tableSaid};

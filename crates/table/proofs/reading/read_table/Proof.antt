@@ -1,6 +1,6 @@
 use mathlib.Core.Path.{ap}
 use borrow.Author.Needs.{needs}
-use Rattle.records.proofs.Windowed.{read-windowed}
+use Rattle.sections.proofs.Windowed.{read-windowed}
 use Rattle.records.specs.Said.{endSaid}
 use Rattle.table.proofs.Read.{read-refused, read-judged}
 use Rattle.table.proofs.reading.read_table.Statement.{statement}

@@ -1,0 +1,3 @@
+pub mod Sectioned
+pub mod Taken
+pub mod Windowed
