@@ -4,7 +4,7 @@
 --     tells    what a called function gives back: its result, and what its contract says of that and of the last values (`last`)
 --     answers  the same, where nothing is said of last values
 --     Number, to-number, asks-number      the call of `answers::number`;  Numbers, to-numbers, asks-numbers     that of `numbers_of`
---     machineVals, machine-tells, machine-makes, machine-typed     a machine's machine value, and its type's laws;  hyper-fits, tick-fits     what is known of two of its numbers
+--     machineVals, machine-tells, machine-makes, machine-typed     a machine's machine value, and its type's laws;  hyper-fits, tick-fits     what is known of two of its numbers;  number-fits, place-fits     of what `numbers_of` gives
 -- Assumes nothing.
 use mathlib.Core.List.{List, [], _∷_}
 use Prim.Native.Nat.{ℕ, _<_, _^_}
@@ -38,6 +38,9 @@ use Rattle.answers.proofs.number as number
 use Rattle.machine.specs.declared.Machine.{Machine}
 use Rattle.machine.proofs.Machine as T
 use Rattle.machine.proofs.Machine.Laws as T′
+use Rattle.export.specs.declared.Numbered.{Numbered}
+use Rattle.export.proofs.Numbered as N
+use Rattle.export.proofs.Numbered.Laws as N′
 use Rattle.export.proofs.numbers_of as numbers
 
 module _ {M : Type 1} {𝓤 : URA M} {H : Heap 𝓤} {A : Atoms 𝓤} {K : Type 0} {W : Given 𝓤 H A} {Γ : List (Item 𝓤)} {G : Goal 𝓤 H} where
@@ -110,3 +113,11 @@ module _ (m : Machine) (is : IsMachine m) where
 
   pub tick-fits : m .tick < 2 ^ 32
   tick-fits = LL.owed T.the-type T′.the-laws m (machineVals m) is .1 .1 .0 .1
+
+-- ---- what is known of the number and of the place that `numbers_of` gives
+module _ (n : Numbered) (v : Val) (is : Is N.the-row n (v ∷ [])) where
+  pub number-fits : n .number < 2 ^ 8
+  number-fits = LL.owed N.the-type N′.the-laws n (v ∷ []) is .0 .1
+
+  pub place-fits : n .place < 2 ^ 64
+  place-fits = LL.owed N.the-type N′.the-laws n (v ∷ []) is .1 .0 .1

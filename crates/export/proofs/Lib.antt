@@ -1,3 +1,4 @@
 pub mod Lent
 pub mod Fields
 pub mod Parts
+pub mod Walks

@@ -1,5 +1,5 @@
 -- The machine in memory as its fields side by side, so that a call can be lent each of them.
---     machine-parts    its fields, and what a call is given of the mark and the hyper-period, of the tick, of the lists that a step leaves, of the defaults, of what is held and of the store
+--     Lending, machine-parts       what a call is given of a machine, and so of each of its fields
 --     values           the fields' values of a state
 --     machine-apart    a machine in memory gives its fields in memory, and the way back
 --     machine-whole    the fields of any state in memory, with the way back, are that state in memory
@@ -38,26 +38,35 @@ number w how = record { member = record { row = UInt w; ty = tyInt w }; how = ho
 abbrev numbers : Width → ℕ → How → Part
 numbers w n how = record { member = record { row = Array (UInt w) n; ty = tyArray (tyInt w) n }; how = how }
 
-abbrev pub machine-parts : (marks tick lists defaults held store : How) → List Part
-machine-parts marks tick lists defaults held store =
-    record { member = record { row = bool; ty = tyBool }; how = marks }
-    ∷ number w32 marks
-    ∷ number w32 tick
-    ∷ numbers w32 16 lists
-    ∷ numbers w32 16 lists
-    ∷ numbers w32 16 lists
-    ∷ numbers w32 16 lists
-    ∷ numbers w16 512 lists
-    ∷ numbers w16 512 lists
-    ∷ numbers w16 4096 lists
-    ∷ numbers w32 32 defaults
-    ∷ numbers w16 32 lists
-    ∷ numbers w16 32 held
-    ∷ numbers w32 256 store
+-- what a call is given of the mark and the hyper-period, of the tick, of the lists that no call changes, and of the rest
+pub record Lending : Type 0 where
+  pub marks : How
+  pub tick : How
+  pub lists : How
+  pub defaults : How
+  pub held : How
+  pub store : How
+
+abbrev pub machine-parts : Lending → List Part
+machine-parts given =
+    record { member = record { row = bool; ty = tyBool }; how = given .marks }
+    ∷ number w32 (given .marks)
+    ∷ number w32 (given .tick)
+    ∷ numbers w32 16 (given .lists)
+    ∷ numbers w32 16 (given .lists)
+    ∷ numbers w32 16 (given .lists)
+    ∷ numbers w32 16 (given .lists)
+    ∷ numbers w16 512 (given .lists)
+    ∷ numbers w16 512 (given .lists)
+    ∷ numbers w16 4096 (given .lists)
+    ∷ numbers w32 32 (given .defaults)
+    ∷ numbers w16 32 (given .lists)
+    ∷ numbers w16 32 (given .held)
+    ∷ numbers w32 256 (given .store)
     ∷ []
 
 abbrev pub members : List Member
-members = membersOf (machine-parts kept kept kept kept kept kept)
+members = membersOf (machine-parts (record { marks = kept; tick = kept; lists = kept; defaults = kept; held = kept; store = kept }))
 
 abbrev pub values : Machine → Denots (rowsOf members)
 values h = (h .loaded, (h .hyper, (h .tick, (h .periods, (h .starts, (h .ends, (h .counts, (h .reads, (h .writes, (h .uses, (h .defaults, (h .carried, (h .held, (h .store, tt))))))))))))))
