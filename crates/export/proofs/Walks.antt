@@ -1,12 +1,12 @@
 -- What the walks of this crate share, above the steps of `Lent.antt`.
 --     met              a walk of a function's MIR, from its parameters' machine values, is the function's theorem.        framed      its table of calls is monotone under a frame
 --     number-known, numbers-known      `answers::number` and `numbers_of` meet their contracts in such a table.        tells-number, tells-numbers        the call of each, on an answer
---     asks             what a callee without a `requires` asks.        field-at     the address of a field of what one local points to is stored in another local.        hands       one local more is passed to a call
+--     asks             what a callee without a `requires` asks.        spot     the position of a local.        field-at     the address of a field of what one local points to is stored in another local.        hands       one local more is passed to a call
 --     lends-machine    a machine in memory is taken apart, and its fields are lent for a new lifetime.        machine-again       that lifetime ends, and the fields at their last values are a machine in memory
 --     locals, frees1, frees4       the positions of a function's locals; the first of them, or the first four, are freed, whatever they hold
 -- `met`, `framed` and those that are known are for every `Model` and every `Running`; the steps assume `Given`.
 use mathlib.Core.Path.{_≡_, refl, subst}
-use Prim.Native.Nat.{ℕ, zero, suc, _+_, _*_}
+use Prim.Native.Nat.{ℕ, zero, suc, _+_, _-_, _*_}
 use mathlib.Core.Option.{some as found}
 use mathlib.Core.List.{List, [], _∷_}
 use lib.Dec.{T as Holds}
@@ -87,17 +87,20 @@ module _ {M : Type 1} (𝓤 : URA M) (H : Heap 𝓤) (𝓜 : Model 𝓤 H) (𝓖
   pub numbers-known : env #export·numbers-of ≡ numbers-def.routine → Triple 𝓤 (tables 𝓤 H 𝓜 𝓡 env .C #export·numbers-of) (Numbers 𝓤 H (𝓖 .A) (𝓜 .mem) (𝓡 .run))
   numbers-known e = cited 𝓤 H (Numbers 𝓤 H (𝓖 .A) (𝓜 .mem) (𝓡 .run)) 𝓜 𝓡 env #export·numbers-of numbers-def.routine e (numbers-thm.met 𝓤 H 𝓜 𝓖 𝓡)
 
--- ---- steps about code
+-- ---- steps about code. Local number i stands at `spot p last i`, where the last local stands at p: so a step finds it from the code
+abbrev pub spot : ℕ → ℕ → ℕ → ℕ
+spot p last i = p + 2 * (last - i)
+
 module _ {M : Type 1} {𝓤 : URA M} {H : Heap 𝓤} {A : Atoms 𝓤} {K : Type 0} {W : Given 𝓤 H A} {Γ : List (Item 𝓤)} {E : Env 𝓤 H} where
-  pub hands : K → (n : ℕ) {i : ℕ} {s : Share} {v : Val} {xs : List Operand} {vs : List Val} → nth 𝓤 H A n Γ ≡ ‵ (fat s (spotOf 𝓤 H E i .0) (spotOf 𝓤 H E i .1) (spotOf 𝓤 H E i .2) v)
+  pub hands : K → (p last : ℕ) {i : ℕ} {s : Share} {v : Val} {xs : List Operand} {vs : List Val} → nth 𝓤 H A (spot p last i) Γ ≡ ‵ (fat s (spotOf 𝓤 H E i .0) (spotOf 𝓤 H E i .1) (spotOf 𝓤 H E i .2) v)
       → Opds K W Γ E xs vs → Opds K W Γ E (copy (place i []) ∷ xs) (v ∷ vs)
-  hands t n at-n = and-then t (load t (from t (stop t)) (look t n at-n))
+  hands t p last {i} at-i = and-then t (load t (from t (stop t)) (look t (spot p last i) at-i))
 
 module _ {M : Type 1} {𝓤 : URA M} {H : Heap 𝓤} {A : Atoms 𝓤} {K : Type 0} {W : Given 𝓤 H A} {Γ : List (Item 𝓤)} {C : Calls 𝓤 H} {Λ : Loops 𝓤 H} {E : Env 𝓤 H} {q : Post 𝓤 H} {rest : Body} where
-  pub field-at : K → (n m : ℕ) {i x k : ℕ} {τ τ′ : Ty} {s : Share} {b o d : ℕ} → nth 𝓤 H A n Γ ≡ ‵ (fat s (spotOf 𝓤 H E i .0) (spotOf 𝓤 H E i .1) (spotOf 𝓤 H E i .2) (vptr b o)) → fieldOf τ k ≡ found (τ′, d)
-      → nth 𝓤 H A m Γ ≡ ‵ (froom (spotOf 𝓤 H E x .0) (spotOf 𝓤 H E x .1) (spotOf 𝓤 H E x .2)) → Holds (hasTy (spotOf 𝓤 H E x .0) (vptr b (o + d))) × WT (vptr b (o + d))
-      → Step K W (put 𝓤 H A m (‵ (fat fullShare (spotOf 𝓤 H E x .0) (spotOf 𝓤 H E x .1) (spotOf 𝓤 H E x .2) (vptr b (o + d)))) Γ) (runs C Λ E rest q) Γ (runs C Λ E (seq (assign (place x []) (addrOf (place i (deref τ ∷ field k ∷ [])))) rest) q)
-  field-at t n m at-n is-field at-m typed = assigns t (addr t (from t (hop t (look t n at-n) (fld t is-field (stop t))))) (from t (stop t)) (init t m at-m typed)
+  pub field-at : K → (p last : ℕ) {i x k : ℕ} {τ τ′ : Ty} {s : Share} {b o d : ℕ} → nth 𝓤 H A (spot p last i) Γ ≡ ‵ (fat s (spotOf 𝓤 H E i .0) (spotOf 𝓤 H E i .1) (spotOf 𝓤 H E i .2) (vptr b o)) → fieldOf τ k ≡ found (τ′, d)
+      → nth 𝓤 H A (spot p last x) Γ ≡ ‵ (froom (spotOf 𝓤 H E x .0) (spotOf 𝓤 H E x .1) (spotOf 𝓤 H E x .2)) → Holds (hasTy (spotOf 𝓤 H E x .0) (vptr b (o + d))) × WT (vptr b (o + d))
+      → Step K W (put 𝓤 H A (spot p last x) (‵ (fat fullShare (spotOf 𝓤 H E x .0) (spotOf 𝓤 H E x .1) (spotOf 𝓤 H E x .2) (vptr b (o + d)))) Γ) (runs C Λ E rest q) Γ (runs C Λ E (seq (assign (place x []) (addrOf (place i (deref τ ∷ field k ∷ [])))) rest) q)
+  field-at t p last {i} {x} at-i is-field at-x typed = assigns t (addr t (from t (hop t (look t (spot p last i) at-i) (fld t is-field (stop t))))) (from t (stop t)) (init t (spot p last x) at-x typed)
 
   module _ {xs : List Operand} {d : Place} where
     pub tells-number : K → (at-mem : Memory → SProp 𝓤) (run : Routine → Fun 𝓤) → FmC 𝓤 H (W .laws) C → Triple 𝓤 (C #answers·number) (Number 𝓤 H A at-mem run) → (r : Answer) (u : Val) → Is S.the-row r (u ∷ [])

@@ -20,9 +20,9 @@ pub extern "C" fn press_table(table: &[u8], place: &mut usize) -> u8
     ensures place { λ _. ⌜ now (place .exit) ≡ readSays (now (table .entry)) .place ⌝ }
 {
     let read = table::read_table(table);
-    let answer = read.answer;
-    *place = answers::place(answer);
-    answers::number(answer)
+    let verdict = read.answer;
+    *place = answers::place(verdict);
+    answers::number(verdict)
 }
 
 // Planning a table into the lent buffer: 0 with the bytes planned, or 1 to 14.
@@ -32,9 +32,9 @@ pub extern "C" fn press_plan(table: &[u8], out: &mut [u8], place: &mut usize) ->
     ensures place { λ _. ⌜ now (place .exit) ≡ planTold (now (table .entry)) (length (now (out .entry))) .place ⌝ }
     ensures planned { λ _. ⌜ now (out .exit) ≡ planOut (now (table .entry)) (now (out .entry)) ⌝ }
 {
-    let answer = plan::plan(table, out);
-    *place = answers::place(answer);
-    answers::number(answer)
+    let planned = plan::plan(table, out);
+    *place = answers::place(planned);
+    answers::number(planned)
 }
 
 // Checking a schedule that was made elsewhere: 0, 1 to 11 for the table, or 15 to 22.
@@ -43,9 +43,9 @@ pub extern "C" fn press_check(table: &[u8], schedule: &[u8], place: &mut usize) 
     ensures number { λ r. ⌜ r ≡ loadSays (now (table .entry)) (now (schedule .entry)) .number ⌝ }
     ensures place { λ _. ⌜ now (place .exit) ≡ loadSays (now (table .entry)) (now (schedule .entry)) .place ⌝ }
 {
-    let answer = inspect::check_schedule(table, schedule);
-    *place = answers::place(answer);
-    answers::number(answer)
+    let checked = inspect::check_schedule(table, schedule);
+    *place = answers::place(checked);
+    answers::number(checked)
 }
 
 // The number and the place of an answer.
@@ -126,49 +126,49 @@ pub extern "C" fn press_load<'a>(
 
 // The next tick: 0, or 25.
 #[no_mangle]
-pub extern "C" fn press_step(machine: &mut Machine) -> u8
-    ensures { λ r. ⌜ (r ≡ told (stepOf (now (machine .entry)) .answer) .number)
-        × (now (machine .exit) ≡ stepOf (now (machine .entry)) .machine) ⌝ }
+pub extern "C" fn press_step(running: &mut Machine) -> u8
+    ensures { λ r. ⌜ (r ≡ told (stepOf (now (running .entry)) .answer) .number)
+        × (now (running .exit) ≡ stepOf (now (running .entry)) .machine) ⌝ }
 {
-    let answer = machine::lists::step(
-        machine.loaded,
-        machine.hyper,
-        &mut machine.tick,
-        &machine.periods,
-        &machine.starts,
-        &machine.ends,
-        &machine.counts,
-        &machine.reads,
-        &machine.writes,
-        &machine.uses,
-        &machine.defaults,
-        &machine.carried,
-        &mut machine.held,
-        &mut machine.store,
+    let stepped = machine::lists::step(
+        running.loaded,
+        running.hyper,
+        &mut running.tick,
+        &running.periods,
+        &running.starts,
+        &running.ends,
+        &running.counts,
+        &running.reads,
+        &running.writes,
+        &running.uses,
+        &running.defaults,
+        &running.carried,
+        &mut running.held,
+        &mut running.store,
     );
-    answers::number(answer)
+    answers::number(stepped)
 }
 
 // What a task reads of a signal now: 0 with the word, or 23 to 25 with word 0.
 #[no_mangle]
-pub extern "C" fn press_read(machine: &Machine, task: usize, signal: usize, word: &mut u32) -> u8
-    ensures { λ r. ⌜ (r ≡ told (readOf (now (machine .entry)) task signal .answer) .number)
-        × (now (word .exit) ≡ readOf (now (machine .entry)) task signal .word) ⌝ }
+pub extern "C" fn press_read(state: &Machine, task: usize, signal: usize, word: &mut u32) -> u8
+    ensures { λ r. ⌜ (r ≡ told (readOf (now (state .entry)) task signal .answer) .number)
+        × (now (word .exit) ≡ readOf (now (state .entry)) task signal .word) ⌝ }
 {
     let read = machine::lists::read(
-        machine.loaded,
-        machine.hyper,
-        machine.tick,
-        &machine.periods,
-        &machine.starts,
-        &machine.ends,
-        &machine.counts,
-        &machine.reads,
-        &machine.writes,
-        &machine.uses,
-        &machine.carried,
-        &machine.held,
-        &machine.store,
+        state.loaded,
+        state.hyper,
+        state.tick,
+        &state.periods,
+        &state.starts,
+        &state.ends,
+        &state.counts,
+        &state.reads,
+        &state.writes,
+        &state.uses,
+        &state.carried,
+        &state.held,
+        &state.store,
         task,
         signal,
     );
@@ -182,7 +182,7 @@ pub extern "C" fn press_write(machine: &mut Machine, task: usize, signal: usize,
     ensures { λ r. ⌜ (r ≡ told (writeOf (now (machine .entry)) task signal word .answer) .number)
         × (now (machine .exit) ≡ writeOf (now (machine .entry)) task signal word .machine) ⌝ }
 {
-    let answer = machine::lists::write(
+    let written = machine::lists::write(
         machine.loaded,
         machine.hyper,
         machine.tick,
@@ -200,5 +200,5 @@ pub extern "C" fn press_write(machine: &mut Machine, task: usize, signal: usize,
         signal,
         word,
     );
-    answers::number(answer)
+    answers::number(written)
 }

@@ -150,14 +150,14 @@ module _ {M : Type 1} (𝓤 : URA M) (H : Heap 𝓤) (A : Atoms 𝓤) (W : Given
         nothing ! $ move ! (23 ∷ 0 ∷ []) $ fjoin ! $ owned ! usize (Is usize) (uint-makes 𝓤 H A W w64) i _ (refl, i-fits) $ fjoin ! $ move ! (1 ∷ 0 ∷ []) $ fjoin ! $
         nothing ! $ move ! (22 ∷ 0 ∷ []) $ join ! $ move ! (21 ∷ 0 ∷ []) $ join ! $ asks ! (Listing 𝓤 H A at-mem run .pre to) refl $
         -- [what `live_list` asks; table; _8; …; _7; …; room for _6; …; room for _5; …; _4; …; _3; …; _2; …; _1; …; room for _0; …; place's obs, borrow and token]
-        calls-at ! fm (Listing 𝓤 H A at-mem run) known-list to (hands ! 16 refl (hands ! 14 refl (hands ! 2 refl (no-more !)))) (λ u.
+        calls-at ! fm (Listing 𝓤 H A at-mem run) known-list to (hands ! 2 8 refl (hands ! 2 8 refl (hands ! 2 8 refl (no-more !)))) (λ u.
         use1 W (later (some (λ (r : Answer). ((‵ (flft κ₀ q₀) ⊛ ‵ (flft κ₁ q₁) ⊛ ‵ ftrue) ⊛ ‵ (S.the-row .own r (u ∷ []))) ⊛ raw (ensured 𝓤 H A listing.ended (listing.clauses 𝓤 H A at-mem run) κs passed tt r)))) (id⊢ 𝓤 _) $ await ! tt $ pick ! (λ r.
         split ! $ move ! (1 ∷ []) $ use1 W (some (λ (zs : Unit {0} × (Unit {0} × (List LiveValue × Unit {0}))). ‵ (lasts listing.ended κs passed zs) ⊛ raw (fact 𝓤 (Listed r (zs .1 .1 .0))))) (id⊢ 𝓤 _) $ pick ! (λ zs.
         split ! $ move ! (1 ∷ []) $ heard ! (Listed r (zs .1 .1 .0)) (λ e. fsplit ! $ drop ! $ fsplit ! $ drop ! $ fsplit ! $ fsplit ! $ move ! (1 ∷ []) $ feqL ! (λ l.
         move ! (2 ∷ []) $ split ! $ move ! (1 ∷ []) $ peeks ! S.the-row (Is S.the-row) (shows 𝓤 H A S.the-row) r (u ∷ []) (λ is. drop ! $
         -- [the two tokens; the last list; true; table; _8; …; _7; …; room for _6; …; room for _5; …; _4; …; _3; …; _2; …; _1; …; room for _0; …; place's obs, borrow and token]
         land ! (from ! (stop !)) (init ! 10 refl (EL.lawful S.the-type S′.the-laws 𝓤 H A W tt .typed r _ is .0)) $
-        tells-numbers ! at-mem run fm known-numbers r u is (hands ! 11 refl (no-more !)) (λ n v d given.
+        tells-numbers ! at-mem run fm known-numbers r u is (hands ! 5 8 refl (no-more !)) (λ n v d given.
         land ! (from ! (stop !)) (init ! 8 refl (LL.lawful N.the-type N′.the-laws 𝓤 H A W .typed n _ given .0)) $
         rewrite ! 8 (λ (w : Val). ‵ (fat fullShare N′.mir l₆ 0 w)) (ap only (LL.tells N.the-type N′.the-laws n (v ∷ []) given)) refl $
         move ! (22 ∷ 23 ∷ 24 ∷ []) $ takes ! tt usize (uint-vals w64) (uint-tells w64) p b′ o′ (λ _.

@@ -178,9 +178,9 @@ module _ {M : Type 1} (𝓤 : URA M) (H : Heap 𝓤) (A : Atoms 𝓤) (W : Given
         pass1 ! (init ! 34 refl (shr-slice-lawful 𝓤 H A W (named 1) κ₁ u8 .typed schedule (sliced schedule ∷ []) schedule-is .0)) $ pass1 ! (init ! 32 refl (tt, tt)) $ pass0 ! $
         move ! (42 ∷ 43 ∷ 44 ∷ []) $ takes ! tt T.the-row machineVals machine-tells h b o (λ was.
         -- [the machine; what it owns; the open borrow; obs; auth; room for _20; …; _4; …; _1; …; room for _0; …; the slices' token; table; schedule; place's obs, borrow and token]: the addresses of all fields are taken
-        field-at ! 43 31 refl refl refl (tt, tt) $ field-at ! 43 29 refl refl refl (tt, tt) $ field-at ! 43 27 refl refl refl (tt, tt) $ field-at ! 43 25 refl refl refl (tt, tt) $ field-at ! 43 23 refl refl refl (tt, tt) $
-        field-at ! 43 21 refl refl refl (tt, tt) $ field-at ! 43 19 refl refl refl (tt, tt) $ field-at ! 43 17 refl refl refl (tt, tt) $ field-at ! 43 15 refl refl refl (tt, tt) $ field-at ! 43 13 refl refl refl (tt, tt) $
-        field-at ! 43 11 refl refl refl (tt, tt) $ field-at ! 43 9 refl refl refl (tt, tt) $ field-at ! 43 7 refl refl refl (tt, tt) $ field-at ! 43 5 refl refl refl (tt, tt) $
+        field-at ! 5 20 refl refl refl (tt, tt) $ field-at ! 5 20 refl refl refl (tt, tt) $ field-at ! 5 20 refl refl refl (tt, tt) $ field-at ! 5 20 refl refl refl (tt, tt) $ field-at ! 5 20 refl refl refl (tt, tt) $
+        field-at ! 5 20 refl refl refl (tt, tt) $ field-at ! 5 20 refl refl refl (tt, tt) $ field-at ! 5 20 refl refl refl (tt, tt) $ field-at ! 5 20 refl refl refl (tt, tt) $ field-at ! 5 20 refl refl refl (tt, tt) $
+        field-at ! 5 20 refl refl refl (tt, tt) $ field-at ! 5 20 refl refl refl (tt, tt) $ field-at ! 5 20 refl refl refl (tt, tt) $ field-at ! 5 20 refl refl refl (tt, tt) $
         -- a copy of what each slice owns is kept
         move ! (49 ∷ []) $ use1 W (‵ (Bytes schedule) ⊛ ‵ (Bytes schedule)) (shr-slice-copy 𝓤 H A W (named 1) κ₁ u8 .twice schedule (sliced schedule ∷ [])) $ split ! $
         move ! (50 ∷ []) $ use1 W (‵ (Bytes table) ⊛ ‵ (Bytes table)) (shr-slice-copy 𝓤 H A W (named 1) κ₁ u8 .twice table (sliced table ∷ [])) $ split ! $
@@ -190,14 +190,14 @@ module _ {M : Type 1} (𝓤 : URA M) (H : Heap 𝓤) (A : Atoms 𝓤) (W : Given
         move ! (0 ∷ 3 ∷ 4 ∷ []) $ lends-machine ! tt fullShare b o h lending (all-whole parts) rest given given-as (λ ν γs.
         -- [what the parameters own; what is kept; ν's token; the way back; table; schedule; the open borrow; obs; auth; _20; …; the slices' token; place's obs, borrow and token]
         nothing ! $ move ! (52 ∷ 0 ∷ []) $ join ! $ move ! (3 ∷ 0 ∷ []) $ join ! $ asks ! (Loading 𝓤 H A at-mem run .pre (to ν γs)) refl $
-        calls-at ! fm (Loading 𝓤 H A at-mem run) known-load (to ν γs) (hands ! 34 refl (hands ! 32 refl (hands ! 30 refl (hands ! 28 refl (hands ! 26 refl (hands ! 24 refl (hands ! 22 refl (hands ! 20 refl (hands ! 18 refl (hands ! 16 refl (hands ! 14 refl (hands ! 12 refl (hands ! 10 refl (hands ! 8 refl (hands ! 44 refl (hands ! 42 refl (no-more !))))))))))))))))) (λ u.
+        calls-at ! fm (Loading 𝓤 H A at-mem run) known-load (to ν γs) (hands ! 8 20 refl (hands ! 8 20 refl (hands ! 8 20 refl (hands ! 8 20 refl (hands ! 8 20 refl (hands ! 8 20 refl (hands ! 8 20 refl (hands ! 8 20 refl (hands ! 8 20 refl (hands ! 8 20 refl (hands ! 8 20 refl (hands ! 8 20 refl (hands ! 8 20 refl (hands ! 8 20 refl (hands ! 8 20 refl (hands ! 8 20 refl (no-more !))))))))))))))))) (λ u.
         tells ! tt (tokens ν γs) S.the-row u (lasts loading.ended (κs ν γs) (passed ν γs)) Said (λ r ws e is.
         -- [the tokens; what is said of last values; what is kept; the way back; table; schedule; the open borrow; obs; auth; _20; …; place's obs, borrow and token]
         land ! (from ! (stop !)) (init ! 39 refl (EL.lawful S.the-type S′.the-laws 𝓤 H A W tt .typed r _ is .0)) $
         -- the lifetime is ended, and the fields come back at those values
         split ! $ move ! (0 ∷ 2 ∷ 3 ∷ 4 ∷ []) $ machine-again ! tt fullShare b o h lending (all-whole parts) Rest no-more-said γs ws (after ws) refl $ move ! (0 ∷ 4 ∷ 5 ∷ 6 ∷ []) $ close-ref ! tt (mem T.the-row) (after ws) $
         -- [machine's obs, borrow and token; the slices' token; table; schedule; _20; …; _5; …; _1; …; room for _0; …; place's obs, borrow and token]
-        tells-numbers ! at-mem run fm known-numbers r u is (hands ! 37 refl (no-more !)) (λ n v d taken.
+        tells-numbers ! at-mem run fm known-numbers r u is (hands ! 7 20 refl (no-more !)) (λ n v d taken.
         land ! (from ! (stop !)) (init ! 34 refl (LL.lawful N.the-type N′.the-laws 𝓤 H A W .typed n _ taken .0)) $
         rewrite ! 34 (λ (w : Val). ‵ (fat fullShare N′.mir l₆ 0 w)) (ap only (LL.tells N.the-type N′.the-laws n (v ∷ []) taken)) refl $
         move ! (48 ∷ 49 ∷ 50 ∷ []) $ takes ! tt usize (uint-vals w64) (uint-tells w64) p b′ o′ (λ _.

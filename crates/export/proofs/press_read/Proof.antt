@@ -150,14 +150,14 @@ module _ {M : Type 1} (𝓤 : URA M) (H : Heap 𝓤) (A : Atoms 𝓤) (W : Given
         assigns ! (of-opd ! (load ! (from ! (hop ! (look ! 38 refl) (fld ! refl (stop !)))) (look-in ! 0 (sub ! 0 refl (whole !))))) (from ! (stop !)) (init ! 28 refl (tt, tt)) $
         assigns ! (of-opd ! (load ! (from ! (hop ! (look ! 38 refl) (fld ! refl (stop !)))) (look-in ! 0 (sub ! 1 refl (whole !))))) (from ! (stop !)) (init ! 26 refl (tt, record { fits = hyper-fits h was })) $
         assigns ! (of-opd ! (load ! (from ! (hop ! (look ! 38 refl) (fld ! refl (stop !)))) (look-in ! 0 (sub ! 2 refl (whole !))))) (from ! (stop !)) (init ! 24 refl (tt, record { fits = tick-fits h was })) $
-        field-at ! 38 22 refl refl refl (tt, tt) $ field-at ! 38 20 refl refl refl (tt, tt) $ field-at ! 38 18 refl refl refl (tt, tt) $ field-at ! 38 16 refl refl refl (tt, tt) $ field-at ! 38 14 refl refl refl (tt, tt) $
-        field-at ! 38 12 refl refl refl (tt, tt) $ field-at ! 38 10 refl refl refl (tt, tt) $ field-at ! 38 8 refl refl refl (tt, tt) $ field-at ! 38 6 refl refl refl (tt, tt) $ field-at ! 38 4 refl refl refl (tt, tt) $
+        field-at ! 4 18 refl refl refl (tt, tt) $ field-at ! 4 18 refl refl refl (tt, tt) $ field-at ! 4 18 refl refl refl (tt, tt) $ field-at ! 4 18 refl refl refl (tt, tt) $ field-at ! 4 18 refl refl refl (tt, tt) $
+        field-at ! 4 18 refl refl refl (tt, tt) $ field-at ! 4 18 refl refl refl (tt, tt) $ field-at ! 4 18 refl refl refl (tt, tt) $ field-at ! 4 18 refl refl refl (tt, tt) $ field-at ! 4 18 refl refl refl (tt, tt) $
         -- the fields are lent, for a lifetime ν of the call
         nothing ! $ owned ! usize (Is usize) (uint-makes 𝓤 H A W w64) j _ (refl, j-fits) $ fjoin ! $ owned ! usize (Is usize) (uint-makes 𝓤 H A W w64) i _ (refl, i-fits) $ fjoin ! $ lends-machine ! tt s b o h lending (none-changed s) rest given given-as (λ ν γs.
         owned ! u32 (Is u32) (uint-makes 𝓤 H A W w32) (h .tick) _ (refl, tick-fits h was) $ fjoin ! $ owned ! u32 (Is u32) (uint-makes 𝓤 H A W w32) (h .hyper) _ (refl, hyper-fits h was) $ fjoin ! $ owned ! bool (Is bool) (bool-makes 𝓤 H A W) (h .loaded) _ refl $ fjoin ! $
         -- [what the parameters own; what is kept; ν's token; the way back; what shuts the share; the shared borrow; _18; …]
         move ! (2 ∷ []) $ nothing ! $ move ! (1 ∷ 0 ∷ []) $ join ! $ asks ! (Reading 𝓤 H A at-mem run .pre (to ν γs)) refl $
-        calls-at ! fm (Reading 𝓤 H A at-mem run) known-read (to ν γs) (hands ! 29 refl (hands ! 27 refl (hands ! 25 refl (hands ! 23 refl (hands ! 21 refl (hands ! 19 refl (hands ! 17 refl (hands ! 15 refl (hands ! 13 refl (hands ! 11 refl (hands ! 9 refl (hands ! 7 refl (hands ! 5 refl (hands ! 37 refl (hands ! 35 refl (no-more !)))))))))))))))) (λ u.
+        calls-at ! fm (Reading 𝓤 H A at-mem run) known-read (to ν γs) (hands ! 5 18 refl (hands ! 5 18 refl (hands ! 5 18 refl (hands ! 5 18 refl (hands ! 5 18 refl (hands ! 5 18 refl (hands ! 5 18 refl (hands ! 5 18 refl (hands ! 5 18 refl (hands ! 5 18 refl (hands ! 5 18 refl (hands ! 5 18 refl (hands ! 5 18 refl (hands ! 5 18 refl (hands ! 5 18 refl (no-more !)))))))))))))))) (λ u.
         tells ! tt (‵ (flft (ν ∷ []) fullShare) ⊛ ‵ ftrue) F.the-row u (lasts reading.ended (ν ∷ [], tt) (passed ν γs)) (λ r ws. Said r) (λ r ws e is.
         -- [the token; what is said of last values; what is kept; the way back; what shuts the share; the shared borrow; _18; …]
         land ! (from ! (stop !)) (init ! 32 refl (LL.lawful F.the-type F′.the-laws 𝓤 H A W .typed r _ is .0)) $

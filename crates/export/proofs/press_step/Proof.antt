@@ -128,15 +128,15 @@ module _ {M : Type 1} (𝓤 : URA M) (H : Heap 𝓤) (A : Atoms 𝓤) (W : Given
         -- [the machine; what it owns; the open borrow; obs; auth; room for _16; …; _1; …; room for _0; …]: two fields are copied, of the others the addresses are taken
         assigns ! (of-opd ! (load ! (from ! (hop ! (look ! 35 refl) (fld ! refl (stop !)))) (look-in ! 0 (sub ! 0 refl (whole !))))) (from ! (stop !)) (init ! 31 refl (tt, tt)) $
         assigns ! (of-opd ! (load ! (from ! (hop ! (look ! 35 refl) (fld ! refl (stop !)))) (look-in ! 0 (sub ! 1 refl (whole !))))) (from ! (stop !)) (init ! 29 refl (tt, record { fits = hyper-fits h was })) $
-        field-at ! 35 27 refl refl refl (tt, tt) $ field-at ! 35 25 refl refl refl (tt, tt) $ field-at ! 35 23 refl refl refl (tt, tt) $ field-at ! 35 21 refl refl refl (tt, tt) $ field-at ! 35 19 refl refl refl (tt, tt) $
-        field-at ! 35 17 refl refl refl (tt, tt) $ field-at ! 35 15 refl refl refl (tt, tt) $ field-at ! 35 13 refl refl refl (tt, tt) $ field-at ! 35 11 refl refl refl (tt, tt) $ field-at ! 35 9 refl refl refl (tt, tt) $
-        field-at ! 35 7 refl refl refl (tt, tt) $ field-at ! 35 5 refl refl refl (tt, tt) $
+        field-at ! 5 16 refl refl refl (tt, tt) $ field-at ! 5 16 refl refl refl (tt, tt) $ field-at ! 5 16 refl refl refl (tt, tt) $ field-at ! 5 16 refl refl refl (tt, tt) $ field-at ! 5 16 refl refl refl (tt, tt) $
+        field-at ! 5 16 refl refl refl (tt, tt) $ field-at ! 5 16 refl refl refl (tt, tt) $ field-at ! 5 16 refl refl refl (tt, tt) $ field-at ! 5 16 refl refl refl (tt, tt) $ field-at ! 5 16 refl refl refl (tt, tt) $
+        field-at ! 5 16 refl refl refl (tt, tt) $ field-at ! 5 16 refl refl refl (tt, tt) $
         -- the fields are lent, for a lifetime ν of the call
         nothing ! $ lends-machine ! tt fullShare b o h lending (all-whole parts) [] tt tt (λ ν γs.
         owned ! u32 (Is u32) (uint-makes 𝓤 H A W w32) (h .hyper) _ (refl, hyper-fits h was) $ fjoin ! $ owned ! bool (Is bool) (bool-makes 𝓤 H A W) (h .loaded) _ refl $ fjoin ! $
         -- [what the parameters own; what is kept; ν's token; the way back; the open borrow; obs; auth; _16; …]
         move ! (2 ∷ []) $ use1 W (Four 𝓤 H A W (ν ∷ [])) (in-four 𝓤 H A W (ν ∷ [])) $ asks ! (Stepping 𝓤 H A at-mem run .pre (to ν γs)) refl $
-        calls-at ! fm (Stepping 𝓤 H A at-mem run) known-step (to ν γs) (hands ! 32 refl (hands ! 30 refl (hands ! 28 refl (hands ! 26 refl (hands ! 24 refl (hands ! 22 refl (hands ! 20 refl (hands ! 18 refl (hands ! 16 refl (hands ! 14 refl (hands ! 12 refl (hands ! 10 refl (hands ! 8 refl (hands ! 6 refl (no-more !))))))))))))))) (λ u.
+        calls-at ! fm (Stepping 𝓤 H A at-mem run) known-step (to ν γs) (hands ! 6 16 refl (hands ! 6 16 refl (hands ! 6 16 refl (hands ! 6 16 refl (hands ! 6 16 refl (hands ! 6 16 refl (hands ! 6 16 refl (hands ! 6 16 refl (hands ! 6 16 refl (hands ! 6 16 refl (hands ! 6 16 refl (hands ! 6 16 refl (hands ! 6 16 refl (hands ! 6 16 refl (no-more !))))))))))))))) (λ u.
         tells ! tt (Four 𝓤 H A W (ν ∷ [])) S.the-row u (lasts stepping.ended (κs ν γs) (passed ν γs)) (λ r ws. Said r (ws .1 .1)) (λ r ws e is.
         -- [the tokens; what is said of last values; what is kept; the way back; the open borrow; obs; auth; _16; …]
         land ! (from ! (stop !)) (init ! 35 refl (EL.lawful S.the-type S′.the-laws 𝓤 H A W tt .typed r _ is .0)) $
@@ -144,7 +144,7 @@ module _ {M : Type 1} (𝓤 : URA M) (H : Heap 𝓤) (A : Atoms 𝓤) (W : Given
         move ! (1 ∷ []) $ fsplit ! $ drop ! $ fsplit ! $ drop ! $ move ! (1 ∷ []) $ use1 W (‵ (flft (ν ∷ []) fullShare)) (of-four 𝓤 H A W (ν ∷ [])) $
         machine-again ! tt fullShare b o h lending (all-whole parts) (Unit {0}) (λ _. ftrue) γs (ws .1 .1) (after (ws .1 .1)) refl $ close-ref ! tt (mem T.the-row) (after (ws .1 .1)) $
         -- [obs; the borrow; the token; _16; …; _2; …; _1; …; room for _0; …]
-        tells-number ! at-mem run fm known-number r u is (hands ! 32 refl (no-more !)) (λ n v d given. land ! (from ! (stop !)) (init ! 35 refl (uint-lawful 𝓤 H A W w8 .typed n _ given .0)) $
+        tells-number ! at-mem run fm known-number r u is (hands ! 4 16 refl (no-more !)) (λ n v d given. land ! (from ! (stop !)) (init ! 35 refl (uint-lawful 𝓤 H A W w8 .typed n _ given .0)) $
         returns ! (look ! 35 refl) $ keep ! (locals 3 17 (0 ∷ 1 ∷ 2 ∷ [])) $ frees4 ! $ frees4 ! $ frees4 ! $ frees4 ! $ frees1 ! $ free0 ! $ by ! (exits r (ws .1 .1) n v e d given)))))))))))))))))))))))
 
 pub press-step-spec : {M : Type 1} → stated.statement M

@@ -151,15 +151,15 @@ module _ {M : Type 1} (𝓤 : URA M) (H : Heap 𝓤) (A : Atoms 𝓤) (W : Given
         assigns ! (of-opd ! (load ! (from ! (hop ! (look ! 39 refl) (fld ! refl (stop !)))) (look-in ! 0 (sub ! 0 refl (whole !))))) (from ! (stop !)) (init ! 29 refl (tt, tt)) $
         assigns ! (of-opd ! (load ! (from ! (hop ! (look ! 39 refl) (fld ! refl (stop !)))) (look-in ! 0 (sub ! 1 refl (whole !))))) (from ! (stop !)) (init ! 27 refl (tt, record { fits = hyper-fits h was })) $
         assigns ! (of-opd ! (load ! (from ! (hop ! (look ! 39 refl) (fld ! refl (stop !)))) (look-in ! 0 (sub ! 2 refl (whole !))))) (from ! (stop !)) (init ! 25 refl (tt, record { fits = tick-fits h was })) $
-        field-at ! 39 23 refl refl refl (tt, tt) $ field-at ! 39 21 refl refl refl (tt, tt) $ field-at ! 39 19 refl refl refl (tt, tt) $ field-at ! 39 17 refl refl refl (tt, tt) $ field-at ! 39 15 refl refl refl (tt, tt) $
-        field-at ! 39 13 refl refl refl (tt, tt) $ field-at ! 39 11 refl refl refl (tt, tt) $ field-at ! 39 9 refl refl refl (tt, tt) $ field-at ! 39 7 refl refl refl (tt, tt) $ field-at ! 39 5 refl refl refl (tt, tt) $
+        field-at ! 5 18 refl refl refl (tt, tt) $ field-at ! 5 18 refl refl refl (tt, tt) $ field-at ! 5 18 refl refl refl (tt, tt) $ field-at ! 5 18 refl refl refl (tt, tt) $ field-at ! 5 18 refl refl refl (tt, tt) $
+        field-at ! 5 18 refl refl refl (tt, tt) $ field-at ! 5 18 refl refl refl (tt, tt) $ field-at ! 5 18 refl refl refl (tt, tt) $ field-at ! 5 18 refl refl refl (tt, tt) $ field-at ! 5 18 refl refl refl (tt, tt) $
         -- the fields are lent, for a lifetime ν of the call
         nothing ! $ owned ! u32 (Is u32) (uint-makes 𝓤 H A W w32) w _ (refl, w-fits) $ fjoin ! $ owned ! usize (Is usize) (uint-makes 𝓤 H A W w64) j _ (refl, j-fits) $ fjoin ! $ owned ! usize (Is usize) (uint-makes 𝓤 H A W w64) i _ (refl, i-fits) $ fjoin ! $
         lends-machine ! tt fullShare b o h lending (all-whole parts) rest given given-as (λ ν γs.
         owned ! u32 (Is u32) (uint-makes 𝓤 H A W w32) (h .tick) _ (refl, tick-fits h was) $ fjoin ! $ owned ! u32 (Is u32) (uint-makes 𝓤 H A W w32) (h .hyper) _ (refl, hyper-fits h was) $ fjoin ! $ owned ! bool (Is bool) (bool-makes 𝓤 H A W) (h .loaded) _ refl $ fjoin ! $
         -- [what the parameters own; what is kept; ν's token; the way back; the open borrow; obs; auth; _18; …]
         move ! (2 ∷ []) $ use1 W (Two 𝓤 H A W (ν ∷ [])) (in-two 𝓤 H A W (ν ∷ [])) $ asks ! (Writing 𝓤 H A at-mem run .pre (to ν γs)) refl $
-        calls-at ! fm (Writing 𝓤 H A at-mem run) known-write (to ν γs) (hands ! 30 refl (hands ! 28 refl (hands ! 26 refl (hands ! 24 refl (hands ! 22 refl (hands ! 20 refl (hands ! 18 refl (hands ! 16 refl (hands ! 14 refl (hands ! 12 refl (hands ! 10 refl (hands ! 8 refl (hands ! 6 refl (hands ! 38 refl (hands ! 36 refl (hands ! 34 refl (no-more !))))))))))))))))) (λ u.
+        calls-at ! fm (Writing 𝓤 H A at-mem run) known-write (to ν γs) (hands ! 6 18 refl (hands ! 6 18 refl (hands ! 6 18 refl (hands ! 6 18 refl (hands ! 6 18 refl (hands ! 6 18 refl (hands ! 6 18 refl (hands ! 6 18 refl (hands ! 6 18 refl (hands ! 6 18 refl (hands ! 6 18 refl (hands ! 6 18 refl (hands ! 6 18 refl (hands ! 6 18 refl (hands ! 6 18 refl (hands ! 6 18 refl (no-more !))))))))))))))))) (λ u.
         tells ! tt (Two 𝓤 H A W (ν ∷ [])) S.the-row u (lasts writing.ended (κs ν γs) (passed ν γs)) (λ r ws. Said r (ws .1 .1 .1)) (λ r ws e is.
         -- [the tokens; what is said of last values; what is kept; the way back; the open borrow; obs; auth; _18; …]
         land ! (from ! (stop !)) (init ! 33 refl (EL.lawful S.the-type S′.the-laws 𝓤 H A W tt .typed r _ is .0)) $
@@ -167,7 +167,7 @@ module _ {M : Type 1} (𝓤 : URA M) (H : Heap 𝓤) (A : Atoms 𝓤) (W : Given
         move ! (1 ∷ []) $ fsplit ! $ drop ! $ fsplit ! $ drop ! $ fsplit ! $ drop ! $ move ! (1 ∷ []) $ use1 W (‵ (flft (ν ∷ []) fullShare)) (of-two 𝓤 H A W (ν ∷ [])) $
         machine-again ! tt fullShare b o h lending (all-whole parts) Rest no-more-said γs (ws .1 .1 .1) (after h (ws .1 .1 .1)) refl $ close-ref ! tt (mem T.the-row) (after h (ws .1 .1 .1)) $
         -- [obs; the borrow; the token; _18; …; _5; …; _1; …; room for _0; …]
-        tells-number ! at-mem run fm known-number r u is (hands ! 30 refl (no-more !)) (λ n v d taken. land ! (from ! (stop !)) (init ! 39 refl (uint-lawful 𝓤 H A W w8 .typed n _ taken .0)) $
+        tells-number ! at-mem run fm known-number r u is (hands ! 4 18 refl (no-more !)) (λ n v d taken. land ! (from ! (stop !)) (init ! 39 refl (uint-lawful 𝓤 H A W w8 .typed n _ taken .0)) $
         returns ! (look ! 39 refl) $ keep ! (locals 3 19 (0 ∷ 1 ∷ 2 ∷ [])) $ frees4 ! $ frees4 ! $ frees4 ! $ frees4 ! $ frees1 ! $ frees1 ! $ frees1 ! $ free0 ! $ by ! (exits r (ws .1 .1 .1) n v e d taken)))))))))))))))))))))))))
 
 pub press-write-spec : {M : Type 1} → stated.statement M
