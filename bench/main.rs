@@ -98,6 +98,34 @@ fn plan_rows() {
     }
 }
 
+/// A record that no call writes.
+pub const UNTOUCHED: plain::LiveValue = plain::LiveValue {
+    task: 0xAA,
+    instance: 0xAAAA,
+    from: 0xAAAA_AAAA,
+    until: 0xAAAA_AAAA,
+    element: 0xAA,
+};
+
+/// The list of the first signal. On `all` every instance writes it, so that no list is longer.
+fn live_rows() {
+    for (name, instances) in [("writer", 508), ("all", 512), ("wide", 7)] {
+        let bytes = table(name);
+        let mut list = [UNTOUCHED; 513];
+        let mut other = [UNTOUCHED; 513];
+        assert_eq!(ours::live(&bytes, 0, &mut list), (0, 1 + instances));
+        row(
+            "live",
+            name,
+            BUDGET,
+            10,
+            || ours::live(&bytes, 0, &mut list),
+            || plain::live(&bytes, 0, &mut other).is_ok(),
+        );
+        assert!(list == other);
+    }
+}
+
 fn check_rows() {
     for name in ["writer", "all", "wide", "half", "quarter"] {
         let bytes = table(name);
@@ -251,6 +279,7 @@ fn main() {
         ["rows"] => {
             table_rows();
             plan_rows();
+            live_rows();
             check_rows();
             machine_rows();
             refusal_rows();

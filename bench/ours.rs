@@ -1,9 +1,9 @@
-//! The proved library, as Rust calls it: the number of an answer and its place. A machine is laid out in memory as the plain one is.
+//! The proved library, as Rust calls it: the number of an answer and its place. A machine and a live list are laid out in memory as the plain ones are.
 
-use crate::plain::Machine;
+use crate::plain::{LiveValue, Machine};
 
 mod c {
-    use super::Machine;
+    use super::{LiveValue, Machine};
 
     extern "C" {
         pub fn press_table(table: *const u8, length: usize, place: *mut usize) -> u8;
@@ -19,6 +19,14 @@ mod c {
             length: usize,
             schedule: *const u8,
             schedule_length: usize,
+            place: *mut usize,
+        ) -> u8;
+        pub fn press_live(
+            table: *const u8,
+            length: usize,
+            signal: usize,
+            list: *mut LiveValue,
+            room: usize,
             place: *mut usize,
         ) -> u8;
         pub fn press_new(machine: &mut Machine);
@@ -66,6 +74,19 @@ pub fn check(table: &[u8], schedule: &[u8]) -> Told {
             table.len(),
             schedule.as_ptr(),
             schedule.len(),
+            place,
+        )
+    })
+}
+
+pub fn live(table: &[u8], signal: usize, list: &mut [LiveValue]) -> Told {
+    told(|place| unsafe {
+        c::press_live(
+            table.as_ptr(),
+            table.len(),
+            signal,
+            list.as_mut_ptr(),
+            list.len(),
             place,
         )
     })

@@ -281,6 +281,13 @@ fn first_uses(
     (writers, readers, next)
 }
 
+/// The lowest element whose value is no longer live at the tick.
+fn lowest_free(held: &[u32; MOST_ELEMENTS], tick: u32) -> usize {
+    held.iter()
+        .position(|&until| until <= tick)
+        .unwrap_or(MOST_ELEMENTS - 1)
+}
+
 /// The elements of a signal's uses; returns how many elements there are and the number of the next signal's first use.
 fn plan_signal(
     table: &Table,
@@ -311,10 +318,7 @@ fn plan_signal(
                 reach = reach.max(i * task.period + task.end);
             }
             if right & WRITE != 0 {
-                let e = held
-                    .iter()
-                    .position(|&until| until <= tick)
-                    .unwrap_or(MOST_ELEMENTS - 1);
+                let e = lowest_free(&held, tick);
                 held[e] = LONGEST;
                 own[k] = e;
                 uses[writers[k] + i as usize] = e as u8;
@@ -630,6 +634,61 @@ fn first_fault(table: &Table, schedule: &[u8]) -> Refused {
         }
     }
     unreachable!("a schedule that does not pass has a fault")
+}
+
+// The live list: the carried value, then each writer instance as its window opens.
+
+/// Laid out as the proved library's record.
+#[repr(C)]
+#[derive(Clone, Copy, PartialEq)]
+pub struct LiveValue {
+    pub task: u8,
+    pub instance: u16,
+    pub from: u32,
+    pub until: u32,
+    pub element: u8,
+}
+
+/// 1 to 11, 14 or 23, or the records filled. No signal needs more than 32 elements.
+#[inline(never)]
+pub fn live(bytes: &[u8], signal: usize, list: &mut [LiveValue]) -> Result<usize, Refused> {
+    let table = Table::read(bytes)?;
+    if table.signal_count <= signal {
+        return Err(Refused(23, 0));
+    }
+    let written = |k| table.records_of(WRITE, k, signal);
+    let needed = 1 + (0..table.task_count).map(written).sum::<usize>();
+    let list = list.get_mut(..needed).ok_or(Refused(14, needed))?;
+    let mut held = [0; MOST_ELEMENTS];
+    held[0] = until(&table, signal, 0);
+    list[0] = LiveValue {
+        task: u8::MAX,
+        instance: 0,
+        from: 0,
+        until: held[0],
+        element: 0,
+    };
+    let events = Events::of(&table);
+    let openings = events
+        .iter()
+        .filter(|event| event & KIND != 0 && table.has(WRITE, (event % KIND) as usize, signal));
+    for (value, event) in list[1..].iter_mut().zip(openings) {
+        let k = (event % KIND) as usize;
+        let from = event / TICK;
+        let task = &table.tasks[k];
+        let i = from / task.period;
+        let last = until(&table, signal, i * task.period + task.end);
+        let e = lowest_free(&held, from);
+        held[e] = last;
+        *value = LiveValue {
+            task: k as u8,
+            instance: i as u16,
+            from,
+            until: last,
+            element: e as u8,
+        };
+    }
+    Ok(needed)
 }
 
 // The machine.

@@ -1,7 +1,7 @@
 //! The plain code does the same work: its answers, and all that it writes, are those of the proved library, on tables and schedules of many kinds.
 
 use crate::tables::{encode, table, Task, NAMES};
-use crate::{ours, plain, ROOM};
+use crate::{ours, plain, ROOM, UNTOUCHED};
 
 pub struct Dice(pub u64);
 
@@ -115,6 +115,19 @@ fn same_plan(table: &[u8], room: usize, seen: &mut [u64; 26]) -> Vec<u8> {
     one
 }
 
+fn same_live(table: &[u8], signal: usize, room: usize, seen: &mut [u64; 26]) {
+    let mut one = vec![UNTOUCHED; room];
+    let mut other = one.clone();
+    let answer = ours::live(table, signal, &mut one);
+    assert_eq!(
+        answer,
+        told(plain::live(table, signal, &mut other), |n| n),
+        "the live list"
+    );
+    assert!(one == other, "the records filled");
+    seen[answer.0 as usize] += 1;
+}
+
 fn word_of(answer: Result<u32, plain::Refused>) -> (u8, u32) {
     match answer {
         Ok(word) => (0, word),
@@ -186,6 +199,10 @@ pub fn compare(tables: u64) -> [u64; 26] {
         seen[answer.0 as usize] += 1;
         let mut schedule = same_plan(&table, ROOM, &mut seen);
         same_plan(&table, dice.below(schedule.len() + 3), &mut seen);
+        for room in [513, dice.below(20)] {
+            let signal = dice.of(&[0, 0, 1, 3, 31, 32, usize::MAX]);
+            same_live(&table, signal, room, &mut seen);
+        }
         for _ in 0..4 {
             let answer = ours::check(&table, &schedule);
             assert_eq!(

@@ -1,7 +1,7 @@
 //! How deep a call reaches: the stack below is painted, and after the call the lowest byte that changed is looked for.
 
 use crate::tables::table;
-use crate::{ours, plain, planned};
+use crate::{ours, plain, planned, UNTOUCHED};
 
 const PAINTED: usize = 1 << 20;
 const PAINT: u8 = 0xA5;
@@ -63,6 +63,13 @@ pub fn rows() {
         "plan",
         depth_of(|| ours::plan(&bytes, &mut out)),
         depth_of(|| plain::plan(&bytes, &mut other).is_ok()),
+    );
+    let mut list = [UNTOUCHED; 513];
+    let mut listed = [UNTOUCHED; 513];
+    row(
+        "live",
+        depth_of(|| ours::live(&bytes, 0, &mut list)),
+        depth_of(|| plain::live(&bytes, 0, &mut listed).is_ok()),
     );
     row(
         "check",

@@ -89,7 +89,7 @@ pub const NAMES: [&str; 8] = [
 
 pub fn table(name: &str) -> Vec<u8> {
     match name {
-        // one writer of 504 instances, four readers of two: 512 instances, 4,096 uses
+        // one writer of 508 instances, four readers of one: 512 instances, 4,096 uses
         "writer" => {
             let mut tasks = vec![Task {
                 period: 19,
@@ -97,7 +97,7 @@ pub fn table(name: &str) -> Vec<u8> {
                 end: 7,
             }];
             tasks.extend((0..4).map(|reader| Task {
-                period: 4788,
+                period: 9652,
                 start: 900 * reader,
                 end: 900 * reader + 1800,
             }));
