@@ -5,13 +5,11 @@ use rules::Answer;
 use sections::grid::read_grid;
 use table::read_table;
 use verdict::check_with;
-ghost use mathlib.Core.Path.{_≡_};
-ghost use Rattle.rules.specs.Numbers.{told};
-ghost use Rattle.rules.specs.Loading.{loadSays};
+ghost use Rattle.inspect.specs.Gives.{CheckGives};
 
 // 1 to 11 for the table, then 15 to 22 for the schedule.
 pub fn check_schedule(table: &[u8], schedule: &[u8]) -> Answer
-    ensures { λ r. ⌜ told r ≡ loadSays (now (table .entry)) (now (schedule .entry)) ⌝ }
+    ensures { λ r. ⌜ CheckGives (now (table .entry)) (now (schedule .entry)) r ⌝ }
 {
     let read = read_table(table);
     let answer = read.answer;

@@ -1,2 +1,3 @@
 pub mod Lives
 pub mod Values
+pub mod Gives

@@ -12,10 +12,11 @@ use sections::grid::read_grid;
 use table::read_table;
 ghost use mathlib.Core.Path.{_≡_};
 ghost use Prim.Native.Nat.{_*_, _≤_, min};
-ghost use lib.ListN.{length, replicate};
+ghost use lib.ListN.{length};
 ghost use Rattle.rules.specs.Numbers.{told};
-ghost use Rattle.lives.specs.Lives.{liveTold, liveFront, liveOut, mostLent};
+ghost use Rattle.lives.specs.Lives.{liveTold, liveFront, mostLent};
 ghost use Rattle.lives.specs.Values.{mostValues, recordWords, filledFrom, filled, Fills};
+ghost use Rattle.lives.specs.Gives.{ListGives, LentGives};
 
 // The most records that a caller without a list of its own is lent.
 pub const MOST_LENT: usize = 600;
@@ -95,7 +96,7 @@ fn fill_front(list: &mut [LiveValue], table: &[u8], signal: usize, room: usize) 
 
 // The live list of a signal at the front of the lent list, whose other records stay. A refusal changes nothing.
 pub fn live_list(table: &[u8], signal: usize, list: &mut [LiveValue]) -> Answer
-    ensures { λ r. ⌜ (told r ≡ liveTold (now (table .entry)) signal (length (now (list .entry)))) × (now (list .exit) ≡ liveOut (now (table .entry)) signal (now (list .entry))) ⌝ }
+    ensures { λ r. ⌜ ListGives (now (table .entry)) signal (now (list .entry)) r (now (list .exit)) ⌝ }
 {
     let room = list.len();
     fill_front(list, table, signal, room)
@@ -109,7 +110,7 @@ fn at_most(room: usize) -> usize
 
 // The same by value, for a caller without such a list: so many records are lent, at most 600, and each is `before` beforehand.
 pub fn lent(table: &[u8], signal: usize, room: usize, before: LiveValue) -> Lived
-    ensures { λ r. ⌜ (told (r .answer) ≡ liveTold (now (table .entry)) signal (min room mostLent)) × (r .values ≡ liveFront (now (table .entry)) signal (min room mostLent) (replicate mostLent before)) ⌝ }
+    ensures { λ r. ⌜ LentGives (now (table .entry)) signal room before r ⌝ }
 {
     let first = at_most(room);
     let mut values = [before; MOST_LENT];

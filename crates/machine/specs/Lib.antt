@@ -5,4 +5,5 @@ pub mod Fit
 pub mod Simulates
 pub mod Started
 pub mod Load
+pub mod Gives
 pub mod Cases

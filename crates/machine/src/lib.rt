@@ -8,9 +8,8 @@ use rules::MOST_SIGNALS;
 use rules::MOST_TASKS;
 use rules::MOST_USES;
 use rules::WORDS;
-ghost use mathlib.Core.Path.{_≡_};
-ghost use Rattle.machine.specs.Calls.{unloaded, stepOf, readOf, writeOf};
 ghost use Rattle.machine.specs.Load.{Loads};
+ghost use Rattle.machine.specs.Gives.{NewGives, StepGives, ReadGives, WriteGives};
 
 #[repr(C)]
 pub struct Machine {
@@ -48,7 +47,7 @@ pub struct WordRead {
 impl Machine {
     // Before the first loading, so unfit.
     pub fn new() -> Machine
-        ensures { λ r. ⌜ r ≡ unloaded ⌝ }
+        ensures { λ r. ⌜ NewGives r ⌝ }
     {
         Machine {
             loaded: false,
@@ -126,7 +125,7 @@ impl Machine {
     }
 
     pub fn step(self) -> Stepped
-        ensures { λ r. ⌜ r ≡ stepOf self ⌝ }
+        ensures { λ r. ⌜ StepGives self r ⌝ }
     {
         let mut tick = self.tick;
         let mut held = self.held;
@@ -158,7 +157,7 @@ impl Machine {
     }
 
     pub fn read(self, task: usize, signal: usize) -> WordRead
-        ensures { λ r. ⌜ r ≡ readOf self task signal ⌝ }
+        ensures { λ r. ⌜ ReadGives self task signal r ⌝ }
     {
         lists::read(
             self.loaded,
@@ -180,7 +179,7 @@ impl Machine {
     }
 
     pub fn write(self, task: usize, signal: usize, word: u32) -> Stepped
-        ensures { λ r. ⌜ r ≡ writeOf self task signal word ⌝ }
+        ensures { λ r. ⌜ WriteGives self task signal word r ⌝ }
     {
         let mut store = self.store;
         let answer = lists::write(

@@ -18,10 +18,9 @@ use verdict::check_with;
 ghost use Prim.Native.Nat.{ℕ};
 ghost use mathlib.Core.Path.{_≡_};
 ghost use mathlib.Core.List.{List};
-ghost use Rattle.machine.specs.Calls.{at, answered, stepOf, readOf, writeOf};
 ghost use Rattle.machine.specs.Lists.{ofLists};
 ghost use Rattle.machine.specs.Started.{given, started, Checked};
-ghost use Rattle.machine.specs.Load.{Loads};
+ghost use Rattle.machine.specs.Gives.{ListsLoadGives, ListsStepGives, ListsReadGives, ListsWriteGives};
 
 pub fn step<'a>(
     loaded: bool,
@@ -39,7 +38,7 @@ pub fn step<'a>(
     held: &mut [u16; MOST_SIGNALS],
     store: &mut [u32; WORDS],
 ) -> Answer
-    ensures { λ r. ⌜ (let m = ofLists loaded hyper (now (tick .entry)) (now (periods .entry)) (now (starts .entry)) (now (ends .entry)) (now (counts .entry)) (now (reads .entry)) (now (writes .entry)) (now (uses .entry)) (now (defaults .entry)) (now (carried .entry)) (now (held .entry)) (now (store .entry)) in answered r (at m (now (tick .exit)) (now (held .exit)) (now (store .exit))) ≡ stepOf m) ⌝ }
+    ensures { λ r. ⌜ ListsStepGives (ofLists loaded hyper (now (tick .entry)) (now (periods .entry)) (now (starts .entry)) (now (ends .entry)) (now (counts .entry)) (now (reads .entry)) (now (writes .entry)) (now (uses .entry)) (now (defaults .entry)) (now (carried .entry)) (now (held .entry)) (now (store .entry))) r (now (tick .exit)) (now (held .exit)) (now (store .exit)) ⌝ }
 {
     if !rows::is_fit(
         loaded,
@@ -92,7 +91,7 @@ pub fn read<'a>(
     task: usize,
     signal: usize,
 ) -> WordRead
-    ensures { λ r. ⌜ ((defaults : List ℕ) → r ≡ readOf (ofLists loaded hyper tick (now (periods .entry)) (now (starts .entry)) (now (ends .entry)) (now (counts .entry)) (now (reads .entry)) (now (writes .entry)) (now (uses .entry)) defaults (now (carried .entry)) (now (held .entry)) (now (store .entry))) task signal) ⌝ }
+    ensures { λ r. ⌜ ListsReadGives (λ (defaults : List ℕ). ofLists loaded hyper tick (now (periods .entry)) (now (starts .entry)) (now (ends .entry)) (now (counts .entry)) (now (reads .entry)) (now (writes .entry)) (now (uses .entry)) defaults (now (carried .entry)) (now (held .entry)) (now (store .entry))) task signal r ⌝ }
 {
     if !rows::is_fit(
         loaded,
@@ -154,7 +153,7 @@ pub fn write<'a>(
     signal: usize,
     word: u32,
 ) -> Answer
-    ensures { λ r. ⌜ ((defaults : List ℕ) → let m = ofLists loaded hyper tick (now (periods .entry)) (now (starts .entry)) (now (ends .entry)) (now (counts .entry)) (now (reads .entry)) (now (writes .entry)) (now (uses .entry)) defaults (now (carried .entry)) (now (held .entry)) (now (store .entry)) in answered r (at m tick (now (held .entry)) (now (store .exit))) ≡ writeOf m task signal word) ⌝ }
+    ensures { λ r. ⌜ ListsWriteGives (λ (defaults : List ℕ). ofLists loaded hyper tick (now (periods .entry)) (now (starts .entry)) (now (ends .entry)) (now (counts .entry)) (now (reads .entry)) (now (writes .entry)) (now (uses .entry)) defaults (now (carried .entry)) (now (held .entry)) (now (store .entry))) task signal word r (now (store .exit)) ⌝ }
 {
     if !rows::is_fit(
         loaded,
@@ -208,7 +207,7 @@ pub fn load<'a, 'b>(
     table: &'a [u8],
     schedule: &'a [u8],
 ) -> Answer
-    ensures { λ r. ⌜ Loads (ofLists (now (loaded .entry)) (now (hyper .entry)) (now (tick .entry)) (now (periods .entry)) (now (starts .entry)) (now (ends .entry)) (now (counts .entry)) (now (reads .entry)) (now (writes .entry)) (now (uses .entry)) (now (defaults .entry)) (now (carried .entry)) (now (held .entry)) (now (store .entry))) (now (table .entry)) (now (schedule .entry)) (answered r (ofLists (now (loaded .exit)) (now (hyper .exit)) (now (tick .exit)) (now (periods .exit)) (now (starts .exit)) (now (ends .exit)) (now (counts .exit)) (now (reads .exit)) (now (writes .exit)) (now (uses .exit)) (now (defaults .exit)) (now (carried .exit)) (now (held .exit)) (now (store .exit)))) ⌝ }
+    ensures { λ r. ⌜ ListsLoadGives (ofLists (now (loaded .entry)) (now (hyper .entry)) (now (tick .entry)) (now (periods .entry)) (now (starts .entry)) (now (ends .entry)) (now (counts .entry)) (now (reads .entry)) (now (writes .entry)) (now (uses .entry)) (now (defaults .entry)) (now (carried .entry)) (now (held .entry)) (now (store .entry))) (now (table .entry)) (now (schedule .entry)) r (ofLists (now (loaded .exit)) (now (hyper .exit)) (now (tick .exit)) (now (periods .exit)) (now (starts .exit)) (now (ends .exit)) (now (counts .exit)) (now (reads .exit)) (now (writes .exit)) (now (uses .exit)) (now (defaults .exit)) (now (carried .exit)) (now (held .exit)) (now (store .exit))) ⌝ }
 {
     let read = read_table(table);
     let refusal = read.answer;

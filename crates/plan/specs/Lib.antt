@@ -1,2 +1,3 @@
 pub mod Uses
 pub mod Planning
+pub mod Gives

@@ -19,7 +19,8 @@ ghost use Rattle.rules.specs.Table.{mostSignals, Fits};
 ghost use Rattle.rules.specs.Reading.{tableOf};
 ghost use Rattle.rules.specs.Numbers.{told};
 ghost use Rattle.rules.specs.Answers.{planSays};
-ghost use Rattle.plan.specs.Planning.{plannedInto, planTold, planOut};
+ghost use Rattle.plan.specs.Planning.{plannedInto};
+ghost use Rattle.plan.specs.Gives.{PlanGives};
 
 // The elements of all signals together.
 fn in_all(counts: &[u8; MOST_SIGNALS], signals: usize) -> usize
@@ -63,7 +64,7 @@ fn plan_table(
 
 // The schedule of a table's bytes at the front of the lent buffer, whose other bytes stay. A refusal changes nothing.
 pub fn plan(table: &[u8], out: &mut [u8]) -> Answer
-    ensures { λ r. ⌜ (told r ≡ planTold (now (table .entry)) (length (now (out .entry)))) × (now (out .exit) ≡ planOut (now (table .entry)) (now (out .entry))) ⌝ }
+    ensures { λ r. ⌜ PlanGives (now (table .entry)) (now (out .entry)) r (now (out .exit)) ⌝ }
 {
     let read = read_table(table);
     if read.hyper == 0 {

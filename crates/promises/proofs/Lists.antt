@@ -16,7 +16,8 @@ use Rattle.fields.proofs.Told.{told-exact}
 use Rattle.fields.proofs.Whens.{on, off}
 use Rattle.lives.specs.declared.LiveValue.{LiveValue}
 use Rattle.lives.specs.Lives.{liveValues, liveTold, liveFront}
-use Rattle.promises.specs.Lists.{ListGives, ListsRightly, AllListsRightly}
+use Rattle.lives.specs.Gives.{ListGives}
+use Rattle.promises.specs.Lists.{ListsRightly, AllListsRightly}
 
 module _ (table : List ℕ) (signal : ℕ) (list : List LiveValue) where
   accepted-told : readSays table .number ≡ allDone → liveTold table signal (length list) ≡ liveSays (tableIn table) signal (length list)

@@ -1,9 +1,11 @@
 -- No other result meets a contract: specs/One.antt, proved.
 use mathlib.Core.Path.{_≡_, sym, _∙_}
+use mathlib.Core.List.{[]}
 use Rattle.fields.proofs.Told.{told-exact}
 use Rattle.records.proofs.Exact.{task-exact, signal-exact, access-exact, end-exact}
 use Rattle.lives.specs.declared.list.Lived.{Lived}
 use Rattle.table.proofs.Exact.{table-exact}
+use Rattle.machine.specs.Calls.{answered}
 use Rattle.machine.proofs.Load.{loads-exact}
 use Rattle.promises.specs.One.{One, Determined}
 
@@ -34,6 +36,10 @@ determined = record {
   step = λ m. named _;
   read = λ m task signal. named _;
   write = λ m task signal word. named _;
+  lists-load = λ m table schedule a b p q. let e = loads-exact m table schedule (answered (a .0) (a .1)) (answered (b .0) (b .1)) p q in λ i. (e i .answer, e i .machine);
+  lists-step = λ m a b p q. let e = p ∙ sym q in λ i. (e i .answer, e i .machine .tick, e i .machine .held, e i .machine .store);
+  lists-read = λ m task signal a b p q. p [] ∙ sym (q []);
+  lists-write = λ m task signal word a b p q. let e = p [] ∙ sym (q []) in λ i. (e i .answer, e i .machine .store);
   number = λ a. named _;
   place = λ a. named _;
   task = λ bytes count at a b p q. task-exact a b (p ∙ sym q);

@@ -26,7 +26,8 @@ use Rattle.theory.proofs.Proved.{plan-answered, plan-says-first, whatever-is-re
 use Rattle.fields.proofs.Told.{told-exact}
 use Rattle.fields.proofs.Whens.{on, off}
 use Rattle.plan.specs.Planning.{planTold, plannedInto, planOut}
-use Rattle.promises.specs.Plans.{PlanGives, PlansRightly, AllPlansRightly}
+use Rattle.plan.specs.Gives.{PlanGives}
+use Rattle.promises.specs.Plans.{PlansRightly, AllPlansRightly}
 
 -- ---- of an accepted table
 

@@ -153,8 +153,8 @@ stands-promised m (on t G st) (since u g) (going tab E F A cs n R) = going-on ta
 
 pub runs-as-promised : RunsAsPromised
 unfolding Promised
-runs-as-promised es rs m R =
-    let (q, (r, S)) = stands-run es rs unloaded m idle untold (fresh unloaded refl) R in
+runs-as-promised new g es rs m R =
+    let (q, (r, S)) = stands-run es rs new m idle untold (fresh new g) R in
     let p = stands-promised m r (storyOf untold es) S in
     record {
       answers = q ∙ ap (map replySaid) (loadings-as-meant es);

@@ -17,8 +17,9 @@ use Rattle.theory.specs.TableBytes.{SameTable, Wide}
 use Rattle.theory.proofs.Proved.{table-accepted-exactly, table-reads-back, table-says-first, whatever-is-read-keeps}
 use Rattle.theory.proofs.Same.{same-hyper}
 use Rattle.table.specs.declared.reading.TableRead.{TableRead}
+use Rattle.table.specs.Gives.{TableGives}
 use Rattle.table.proofs.Exact.{table-exact, answer-says, table-is, hyper-read}
-use Rattle.promises.specs.Tables.{Gives, TablesExactly}
+use Rattle.promises.specs.Tables.{TablesExactly}
 
 -- what reading says, by how the records end
 refusal : (bytes : List ℕ) (t : Told) → endOf bytes ≡ End.refused t → readSays bytes ≡ t
@@ -29,7 +30,7 @@ judged : (bytes : List ℕ) (p : ℕ) → endOf bytes ≡ End.at p → readSays 
 unfolding readSays verdict
 judged bytes p e = ap (verdict (tableIn bytes)) e
 
-module _ (bytes : List ℕ) (r : TableRead) (g : Gives bytes r) where
+module _ (bytes : List ℕ) (r : TableRead) (g : TableGives bytes r) where
   answer-is : told (r .answer) ≡ readSays bytes
   answer-is = answer-says bytes r g
 

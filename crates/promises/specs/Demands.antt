@@ -1,21 +1,23 @@
 -- The user's demands in his order, about the functions he calls: `table::read_table`, `plan::plan`, `lives::live_list`, `inspect::check_schedule`, and
--- `machine::Machine` with new, load, step, read and write. Each function is named by its contract (Gives, PlanGives, ListGives, CheckGives, Loads, stepOf,
--- readOf, writeOf); each clause says what follows for whatever the function gave. proofs/Demands.antt proves them all. Assumes nothing.
+-- `machine::Machine` with new, load, step, read and write. Each function is named by the contract that its source cites (TableGives, PlanGives,
+-- ListGives, CheckGives, NewGives, Loads, StepGives, ReadGives, WriteGives); each clause says what follows for whatever the function gave. proofs/Demands.antt proves them all. Assumes nothing.
 use Prim.Native.Nat.{ℕ}
 use mathlib.Core.Path.{_≡_}
 use mathlib.Core.Bool.{true}
 use mathlib.Core.List.{List}
 use Rattle.rules.specs.Numbers.{told, allDone}
 use Rattle.rules.specs.declared.Answer.{Answer}
+use Rattle.plan.specs.Gives.{PlanGives}
 use Rattle.lives.specs.declared.LiveValue.{LiveValue}
+use Rattle.lives.specs.Gives.{ListGives}
 use Rattle.machine.specs.declared.Machine.{Machine}
 use Rattle.machine.specs.declared.Stepped.{Stepped}
 use Rattle.machine.specs.Load.{Loads}
 use Rattle.machine.specs.Fit.{UnfitExact, StaysFit, RefusedLeaves}
 use Rattle.machine.specs.Calls.{fit}
 use Rattle.promises.specs.Tables.{TablesExactly}
-use Rattle.promises.specs.Plans.{PlanGives, AllPlansRightly}
-use Rattle.promises.specs.Lists.{ListGives, AllListsRightly}
+use Rattle.promises.specs.Plans.{AllPlansRightly}
+use Rattle.promises.specs.Lists.{AllListsRightly}
 use Rattle.promises.specs.Schedules.{SchedulesExactly, PlansPass}
 use Rattle.promises.specs.Runs.{RunsAsPromised, LoadsExactly}
 

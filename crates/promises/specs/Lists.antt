@@ -10,11 +10,8 @@ use Rattle.rules.specs.Reading.{tableIn, readSays}
 use Rattle.rules.specs.declared.Answer.{Answer}
 use Rattle.theory.specs.First.{FirstBrokenElse, BrokenLive, liveRuleTold, liveRules}
 use Rattle.lives.specs.declared.LiveValue.{LiveValue}
-use Rattle.lives.specs.Lives.{liveValues, liveTold, liveOut}
-
--- r is what `live_list` answers for these table bytes, this signal and this lent list, and `after` what it leaves in the list: its contract
-abbrev pub ListGives : (table : List ℕ) (signal : ℕ) (list : List LiveValue) → Answer → (after : List LiveValue) → Type 0
-ListGives table signal list r after = (told r ≡ liveTold table signal (length list)) × (after ≡ liveOut table signal list)
+use Rattle.lives.specs.Lives.{liveValues}
+use Rattle.lives.specs.Gives.{ListGives}
 
 pub record ListsRightly (table : List ℕ) (signal : ℕ) (list : List LiveValue) (r : Answer) (after : List LiveValue) : Type 0 where
   -- A table that is refused is refused with its own number and place.

@@ -13,11 +13,7 @@ use Rattle.rules.specs.Answers.{checkSays}
 use Rattle.rules.specs.Reading.{tableIn, readSays}
 use Rattle.rules.specs.declared.Answer.{Answer}
 use Rattle.theory.specs.First.{FirstBrokenElse, BrokenPlan, planRuleTold, planRules}
-use Rattle.plan.specs.Planning.{planTold, planOut}
-
--- r is what `plan` answers for these table bytes and this lent buffer, and `after` what it leaves in the buffer: its contract
-abbrev pub PlanGives : (table out : List ℕ) → Answer → (after : List ℕ) → Type 0
-PlanGives table out r after = (told r ≡ planTold table (length out)) × (after ≡ planOut table out)
+use Rattle.plan.specs.Gives.{PlanGives}
 
 pub record PlansRightly (table out : List ℕ) (r : Answer) (after : List ℕ) : Type 0 where
   -- A table that is refused is refused with its own number and place.

@@ -20,15 +20,16 @@ use Rattle.machine.specs.declared.WordRead.{WordRead}
 use Rattle.machine.specs.Calls.{unloaded, fit, answered, wordRead, stepOf, readOf, writeOf}
 use Rattle.machine.specs.Simulates.{Said, said, outcomeSaid}
 use Rattle.machine.specs.Load.{Loads}
+use Rattle.machine.specs.Gives.{NewGives, StepGives, ReadGives, WriteGives}
 
 -- ---- what is called
 
 -- m.load, m.step, m.read and m.write, each by its contract: what was asked, the number, place and word that it said, and the machine after it.
 pub data Gives (m : Machine) : Request → Said → Machine → Type 0 where
   loads : (table schedule : List ℕ) (r : Stepped) → Loads m table schedule r → Gives m (load table schedule) (said (told (r .answer)) 0) (r .machine)
-  steps : (r : Stepped) → r ≡ stepOf m → Gives m (call step) (said (told (r .answer)) 0) (r .machine)
-  reads : (task signal : ℕ) (r : WordRead) → r ≡ readOf m task signal → Gives m (call (read task signal)) (said (told (r .answer)) (r .word)) m
-  writes : (task signal word : ℕ) (r : Stepped) → r ≡ writeOf m task signal word → Gives m (call (write task signal word)) (said (told (r .answer)) 0) (r .machine)
+  steps : (r : Stepped) → StepGives m r → Gives m (call step) (said (told (r .answer)) 0) (r .machine)
+  reads : (task signal : ℕ) (r : WordRead) → ReadGives m task signal r → Gives m (call (read task signal)) (said (told (r .answer)) (r .word)) m
+  writes : (task signal word : ℕ) (r : Stepped) → WriteGives m task signal word r → Gives m (call (write task signal word)) (said (told (r .answer)) 0) (r .machine)
 
 -- Requests of any kind in any order, each of the machine that the one before left.
 pub data Run : Machine → List Request → List Said → Machine → Type 0 where
@@ -73,7 +74,7 @@ pub record AsPromised (es : List Request) (rs : List Said) (m : Machine) : Type 
 
 -- So it is for all requests, from `Machine::new` on.
 abbrev pub RunsAsPromised : Type 0
-RunsAsPromised = (es : List Request) (rs : List Said) (m : Machine) → Run unloaded es rs m → AsPromised es rs m
+RunsAsPromised = (new : Machine) → NewGives new → (es : List Request) (rs : List Said) (m : Machine) → Run new es rs m → AsPromised es rs m
 
 -- A loading is accepted exactly where the table is, and the schedule's bytes are those of one that passes; a refused one leaves the machine as it was.
 pub record LoadedExactly (m : Machine) (table schedule : List ℕ) (r : Stepped) : Type 0 where

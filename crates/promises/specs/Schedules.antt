@@ -1,4 +1,4 @@
--- Demand 2, about `sweep::check_schedule`: with an accepted table a schedule passes exactly when document 01's words hold of it, else the first rule
+-- Demand 2, about `inspect::check_schedule`: with an accepted table a schedule passes exactly when document 01's words hold of it, else the first rule
 -- that is broken is told; and what `plan::plan` writes passes. proofs/Schedules.antt proves it. Assumes nothing.
 use Prim.Native.Nat.{ℕ}
 use mathlib.Core.Path.{_≡_}
@@ -9,14 +9,10 @@ use Rattle.rules.specs.Schedule.{Schedule, Passes}
 use Rattle.rules.specs.Bytes.{bytesOf}
 use Rattle.rules.specs.Numbers.{told, allDone}
 use Rattle.rules.specs.Reading.{tableIn, readSays}
-use Rattle.rules.specs.Loading.{loadSays}
 use Rattle.rules.specs.declared.Answer.{Answer}
 use Rattle.theory.specs.First.{FirstBroken, BrokenCheck, checkTold, checkRules}
-use Rattle.promises.specs.Plans.{PlanGives}
-
--- r is what `check_schedule` answers for these bytes: its contract
-abbrev pub CheckGives : (table schedule : List ℕ) → Answer → Type 0
-CheckGives table schedule r = told r ≡ loadSays table schedule
+use Rattle.plan.specs.Gives.{PlanGives}
+use Rattle.inspect.specs.Gives.{CheckGives}
 
 pub record ChecksExactly (table schedule : List ℕ) (r : Answer) : Type 0 where
   -- A table that is refused is refused with its own number and place.

@@ -9,15 +9,11 @@ use Rattle.rules.specs.Table.{Fits}
 use Rattle.rules.specs.Numbers.{Told, told, allDone}
 use Rattle.rules.specs.Encode.{encode}
 use Rattle.rules.specs.Records.{End}
-use Rattle.rules.specs.Reading.{tableOf, gridIn, tableIn, endOf, tableRead}
+use Rattle.rules.specs.Reading.{tableOf, gridIn, tableIn, endOf}
 use Rattle.theory.specs.First.{FirstBroken, tableRules, BrokenTable, tableTold}
 use Rattle.theory.specs.TableBytes.{SameTable, Wide, AreBytes}
 use Rattle.table.specs.declared.reading.TableRead.{TableRead}
-use Rattle.table.specs.Said.{tableSaid}
-
--- r is what `read_table` gives for these bytes: its contract
-abbrev pub Gives : List ℕ → TableRead → Type 0
-Gives bytes r = tableSaid r ≡ tableRead bytes
+use Rattle.table.specs.Gives.{TableGives}
 
 pub record ReadExactly (bytes : List ℕ) (r : TableRead) : Type 0 where
   -- it is accepted exactly where the bytes are those of a table that keeps every rule,
@@ -31,8 +27,8 @@ pub record ReadExactly (bytes : List ℕ) (r : TableRead) : Type 0 where
   -- where all records are read, the first broken rule of 7 to 11 gives them.
   pub whole-refused : (p : ℕ) → endOf bytes ≡ End.at p → FirstBroken (BrokenTable (tableIn bytes)) tableTold (tableRules (tableIn bytes)) (told (r .answer))
   -- No other result meets the contract.
-  pub one : (q : TableRead) → Gives bytes q → q ≡ r
+  pub one : (q : TableRead) → TableGives bytes q → q ≡ r
 
 -- So it is for all bytes.
 abbrev pub TablesExactly : Type 0
-TablesExactly = (bytes : List ℕ) → AreBytes bytes → (r : TableRead) → Gives bytes r → ReadExactly bytes r
+TablesExactly = (bytes : List ℕ) → AreBytes bytes → (r : TableRead) → TableGives bytes r → ReadExactly bytes r

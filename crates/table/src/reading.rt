@@ -9,9 +9,7 @@ use sections::read_accesses;
 use sections::read_end;
 use sections::read_signals;
 use sections::read_tasks;
-ghost use mathlib.Core.Path.{_≡_};
-ghost use Rattle.rules.specs.Reading.{tableRead};
-ghost use Rattle.table.specs.Said.{tableSaid};
+ghost use Rattle.table.specs.Gives.{TableGives};
 
 // The answer, what was read before a refusal too, and the hyper-period of a table that is accepted, else 0.
 pub struct TableRead {
@@ -22,7 +20,7 @@ pub struct TableRead {
 }
 
 pub fn read_table(bytes: &[u8]) -> TableRead
-    ensures { λ r. ⌜ tableSaid r ≡ tableRead (now (bytes .entry)) ⌝ }
+    ensures { λ r. ⌜ TableGives (now (bytes .entry)) r ⌝ }
 {
     let tasks_read = read_tasks(bytes);
     let tasks = tasks_read.tasks;

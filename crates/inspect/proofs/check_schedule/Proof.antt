@@ -1,4 +1,4 @@
--- `sweep::check_schedule` meets its contract: the table's refusal, else what the check with that table says.
+-- `inspect::check_schedule` meets its contract: the table's refusal, else what the check with that table says.
 use mathlib.Core.Path.{sym, _∙_}
 use borrow.Author.Needs.{needs}
 use Rattle.verdict.proofs.Loaded.{load-refused, load-accepted, load-checked}
