@@ -10,8 +10,9 @@
  *   - what one call may write (out, list, place, word, a machine that is not const) shares no byte with anything else lent to that call;
  *   - the memory of a machine holds a `struct press_machine` before press_new too: static memory, or memory set to zero, does.
  *
- * Each function gives back a number of enum press_number and, through its last parameter, the number's place. Every refusal
- * changes nothing else that was lent.
+ * Each function but press_new gives back a number of enum press_number. press_table, press_plan, press_check, press_live and
+ * press_load give the number's place through their last parameter; of the others it is always 0. A refusal changes nothing else
+ * that was lent, but a refused press_read sets the word to 0.
  */
 #ifndef PRESS_H
 #define PRESS_H

@@ -6,7 +6,7 @@ use console::page::front;
 use console::words::after_word;
 use inspect::check_schedule;
 
-pub fn check_kept(
+pub(crate) fn check_kept(
     line: &[u8],
     kept: &[u8],
     lent: &mut [u8],

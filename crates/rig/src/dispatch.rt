@@ -15,7 +15,7 @@ use console::command::Command;
 use console::command::asked;
 use console::command::is_quiet;
 
-pub fn answer(
+pub(crate) fn answer(
     line: &[u8],
     kept: &mut [u8],
     lent: &mut [u8],

@@ -89,7 +89,13 @@ fn read_some(
     take_piece(&piece[..n], line, kept, lent, out, bench)
 }
 
-pub fn run(piece: &mut [u8], line: &mut [u8], kept: &mut [u8], lent: &mut [u8], out: &mut [u8]) {
+pub(crate) fn run(
+    piece: &mut [u8],
+    line: &mut [u8],
+    kept: &mut [u8],
+    lent: &mut [u8],
+    out: &mut [u8],
+) {
     let machine = Machine::new();
     let mut bench = Bench {
         held: 0,

@@ -9,7 +9,7 @@ ghost use Rattle.console.specs.Page.{page, putAll};
 ghost use Rattle.console.specs.Words.{afterWord};
 ghost use Rattle.console.specs.Digits.{bytesOf};
 
-pub fn keep(line: &[u8], kept: &mut [u8], out: &mut [u8], bench: Bench) -> Bench
+pub(crate) fn keep(line: &[u8], kept: &mut [u8], out: &mut [u8], bench: Bench) -> Bench
     ensures { λ r. ⌜ page (now (kept .exit)) (r .kept) ≡ putAll (bytesOf (afterWord (now (line .entry)))) (page (now (kept .entry)) 0) ⌝ }
 {
     let used = decode(after_word(line), kept);

@@ -47,7 +47,13 @@ fn put_values(out: &mut [u8], at: usize, values: [LiveValue; MOST_LENT], len: us
 }
 
 // The whole lent list is shown, so that a record that should have stayed is seen.
-pub fn live_kept(signal: usize, len: usize, kept: &[u8], out: &mut [u8], bench: Bench) -> Bench {
+pub(crate) fn live_kept(
+    signal: usize,
+    len: usize,
+    kept: &[u8],
+    out: &mut [u8],
+    bench: Bench,
+) -> Bench {
     if MOST_LENT < len {
         return bad_line(out, bench);
     }

@@ -33,14 +33,20 @@ fn plan_into(table: &[u8], lent: &mut [u8], out: &mut [u8], bench: Bench) -> Ben
     after
 }
 
-pub fn plan_kept(len: usize, kept: &[u8], lent: &mut [u8], out: &mut [u8], bench: Bench) -> Bench {
+pub(crate) fn plan_kept(
+    len: usize,
+    kept: &[u8],
+    lent: &mut [u8],
+    out: &mut [u8],
+    bench: Bench,
+) -> Bench {
     if lent.len() < len {
         return bad_line(out, bench);
     }
     plan_into(front(kept, bench.kept), &mut lent[..len], out, bench)
 }
 
-pub fn list_kept(kept: &[u8], lent: &mut [u8], out: &mut [u8], bench: Bench) -> Bench {
+pub(crate) fn list_kept(kept: &[u8], lent: &mut [u8], out: &mut [u8], bench: Bench) -> Bench {
     let mut after = bench;
     after.waiting = put_listing(front(kept, bench.kept), lent, out, bench.waiting);
     after

@@ -22,7 +22,13 @@ fn tell_stepped(out: &mut [u8], stepped: Stepped, bench: Bench) -> Bench {
     tell(out, answer, after)
 }
 
-pub fn load_kept(line: &[u8], kept: &[u8], lent: &mut [u8], out: &mut [u8], bench: Bench) -> Bench {
+pub(crate) fn load_kept(
+    line: &[u8],
+    kept: &[u8],
+    lent: &mut [u8],
+    out: &mut [u8],
+    bench: Bench,
+) -> Bench {
     let used = decode(after_word(line), lent);
     let machine = bench.machine;
     let loaded = machine.load(front(kept, bench.kept), front(lent, used));
@@ -45,20 +51,26 @@ fn steps(machine: Machine, k: u64) -> Stepped {
     last
 }
 
-pub fn step_machine(k: u64, out: &mut [u8], bench: Bench) -> Bench {
+pub(crate) fn step_machine(k: u64, out: &mut [u8], bench: Bench) -> Bench {
     let machine = bench.machine;
     let stepped = steps(machine, k);
     tell_stepped(out, stepped, bench)
 }
 
-pub fn read_machine(task: usize, signal: usize, out: &mut [u8], bench: Bench) -> Bench {
+pub(crate) fn read_machine(task: usize, signal: usize, out: &mut [u8], bench: Bench) -> Bench {
     let machine = bench.machine;
     let read = machine.read(task, signal);
     let answer = read.answer;
     tell_with(out, answer, read.word as u64, bench)
 }
 
-pub fn write_machine(task: usize, signal: usize, word: u64, out: &mut [u8], bench: Bench) -> Bench {
+pub(crate) fn write_machine(
+    task: usize,
+    signal: usize,
+    word: u64,
+    out: &mut [u8],
+    bench: Bench,
+) -> Bench {
     if MOST_WORD < word {
         return bad_line(out, bench);
     }

@@ -1,7 +1,7 @@
 // Loops that stop early: how many turns are left.
 ghost use Prim.Native.Nat.{_<_};
 
-pub fn turns_left(turns: u64, ended: bool) -> u64
+pub(crate) fn turns_left(turns: u64, ended: bool) -> u64
     requires { ⌜ 0 < turns ⌝ }
     ensures { λ r. ⌜ r < turns ⌝ }
 {

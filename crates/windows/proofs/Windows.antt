@@ -1,22 +1,20 @@
--- Each closed form is what rules says of the instances of task k: the last to close, the next to close, the last to open, the one that is open.
+-- Each closed form is what rules says of the instances of task k: the last to close, the next to close, the last to open.
 use mathlib.Core.Path.{_≡_, refl, sym, _∙_}
 use mathlib.Core.Logic.{⊎-elim, _⊎_, inl, inr}
 use mathlib.Core.Bool.{Bool, true, false}
-use Prim.Native.Nat.{ℕ, _+_, _-_, _*_, _/_, _%_, _≤_, _<_, min}
-use native.Mathlib.Nat.{min-eq-left, min-eq-right, min-le-left, min-le-right, le-of-lt, le-div-iff-mul-le, div-mul-le-self, lt-div-mul-add, mul-le-mul-right, div-add-mod', le-trans, lt-of-not-le}
+use Prim.Native.Nat.{ℕ, _+_, _-_, _*_, _/_, _≤_, _<_, min}
+use native.Mathlib.Nat.{min-eq-left, min-eq-right, min-le-left, min-le-right, le-of-lt, le-div-iff-mul-le, div-mul-le-self, lt-div-mul-add, mul-le-mul-right, le-trans, lt-of-not-le}
 use native.Mathlib.Omega.{arith}
 use native.Mathlib.Decide.{decLe}
 use lib.Dec.{leb, ltb}
-use lib.Arith.{digits-mod, digits-div}
 use borrow.Author.Tests.{le-leb, lt-leb, lt-ltb, ltb-true, ltb-false, leb-true, leb-false}
 use Rattle.rules.specs.Words.{when}
-use Rattle.rules.specs.Windows.{Table, closes, isOpen}
+use Rattle.rules.specs.Windows.{Table, closes}
 use Rattle.rules.specs.Table.{longest, windowed}
 use Rattle.rules.specs.declared.Task.{Task}
 use Rattle.theory.proofs.Tests.{both3, and-is}
-use Rattle.theory.proofs.Time.{open-true, open-is}
 use Rattle.windows.specs.Windowed.{Windowed}
-use Rattle.windows.specs.Forms.{lastClosed, nextClosing, lastOpened, openAt, taskIn, IsLastClosed, IsLastOpened, IsOpenAt, IsNextClosing}
+use Rattle.windows.specs.Forms.{lastClosed, nextClosing, lastOpened, taskIn, IsLastClosed, IsLastOpened, IsNextClosing}
 
 -- a property of both answers of a test, each under what the test then says
 pub branch : {A : Type 0} (P : A → Type 0) (b : Bool) {x y : A} → (b ≡ true → P x) → (b ≡ false → P y) → P (when b x y)
@@ -88,31 +86,6 @@ module _ (tab : Table) (k t : ℕ) (w : Windowed (taskIn tab k)) where
           let a : q * tab .period k + tab .end k ≤ t = at-or-before (tab .period k) (tab .end k) t (period-pos (taskIn tab k) w) l in
           let b : q < j = lt-of-not-le (λ m. omega (arith, mul-le-mul-right (tab .period k) m)) in
           omega (arith, mul-le-mul-right (tab .period k) b)
-
-  -- a window that holds t is that of instance t / period
-  in-window : (j : ℕ) → isOpen tab k j t ≡ true → (tab .start k ≤ t % tab .period k) × (t % tab .period k < tab .end k) × (j ≡ t / tab .period k)
-  in-window j o =
-      let (a, b) = open-true tab k j t o in
-      let (x, y, z) = window (taskIn tab k) w in
-      let r : ℕ = t - j * tab .period k in
-      let e : j * tab .period k + r ≡ t = omega arith in
-      let below : r < tab .period k = omega arith in
-      let m : t % tab .period k ≡ r = rw e at (digits-mod j below) in
-      let d : t / tab .period k ≡ j = rw e at (digits-div j below) in
-      (rw m (omega arith), (rw m (omega arith)), sym d)
-
-  pub open-at : IsOpenAt tab k t (openAt (taskIn tab k) t)
-  unfolding openAt
-  open-at =
-      branch (IsOpenAt tab k t) (ltb (t % tab .period k) (tab .start k))
-      (λ b j o. omega (arith, ltb-true (t % tab .period k) (tab .start k) b, in-window j o .0))
-      (λ b. branch (IsOpenAt tab k t) (leb (tab .end k) (t % tab .period k))
-      (λ b′ j o. omega (arith, leb-true (tab .end k) (t % tab .period k) b′, in-window j o .1))
-      (λ b′.
-      let l = ltb-false (t % tab .period k) (tab .start k) b in
-      let h = leb-false (tab .end k) (t % tab .period k) b′ in
-      let d = div-add-mod' t (tab .period k) in
-      (open-is tab k (t / tab .period k) t (omega arith) (omega arith), λ j o. in-window j o .2)))
 
   pub next-closing : (limit : ℕ) → IsNextClosing tab k t limit (nextClosing (taskIn tab k) t limit)
   unfolding nextClosing

@@ -1,11 +1,10 @@
 -- The closed forms that the code computes, and what each is to be, in the words of rules. Assumes nothing.
 use mathlib.Core.Path.{_≡_}
-use mathlib.Core.Bool.{true}
 use mathlib.Core.Logic.{_⊎_}
-use Prim.Native.Nat.{ℕ, _+_, _-_, _*_, _/_, _%_, _<_, _≤_, min}
+use Prim.Native.Nat.{ℕ, _+_, _-_, _*_, _/_, _<_, _≤_, min}
 use lib.Dec.{leb, ltb}
 use Rattle.rules.specs.Words.{when}
-use Rattle.rules.specs.Windows.{Table, lcmAll, opens, closes, isOpen}
+use Rattle.rules.specs.Windows.{Table, lcmAll, opens, closes}
 use Rattle.rules.specs.Table.{longest}
 use Rattle.rules.specs.Reading.{taskOf}
 use Rattle.rules.specs.declared.Task.{Task}
@@ -26,13 +25,6 @@ nextClosing task t limit = min limit (when (leb (task .end) t) (((t - task .end)
 -- the last instance that opens before a tick
 unfoldable pub lastOpened : Task → ℕ → Found
 lastOpened task t = when (leb t (task .start)) Nothing (At ((t - 1 - task .start) / task .period))
-
--- the instance that is inside its window at a tick
-unfoldable pub openAt : Task → ℕ → Found
-openAt task t =
-    when (ltb (t % task .period) (task .start)) Nothing
-    (when (leb (task .end) (t % task .period)) Nothing
-    (At (t / task .period)))
 
 -- a hyper-period, where it is not above the longest
 unfoldable pub hyperWithin : ℕ → Hyper
@@ -55,10 +47,6 @@ module _ (tab : Table) (k t : ℕ) where
   abbrev pub IsLastOpened : Found → Type 0
   IsLastOpened (At i) = (opens tab k i < t) × ((j : ℕ) → opens tab k j < t → j ≤ i)
   IsLastOpened Nothing = (j : ℕ) → t ≤ opens tab k j
-
-  abbrev pub IsOpenAt : Found → Type 0
-  IsOpenAt (At i) = (isOpen tab k i t ≡ true) × ((j : ℕ) → isOpen tab k j t ≡ true → j ≡ i)
-  IsOpenAt Nothing = (j : ℕ) → isOpen tab k j t ≡ true → ⊥
 
   pub record IsNextClosing (limit r : ℕ) : Type 0 where
     pub within : r ≤ limit

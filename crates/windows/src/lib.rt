@@ -1,11 +1,11 @@
-// Windows of one task in closed form: which instance closes, opens or is open at a tick; and the hyper-period of all tasks.
+// Windows of one task in closed form: which instance closes or opens last, which closes next; and the hyper-period of all tasks.
 use rules::Task;
 use rules::Tasks;
 ghost use mathlib.Core.Path.{_≡_};
 ghost use Prim.Native.Nat.{_<_, _≤_};
 ghost use Rattle.rules.specs.Table.{longest, mostTasks};
 ghost use Rattle.windows.specs.Windowed.{Windowed, AllWindowed};
-ghost use Rattle.windows.specs.Forms.{lastClosed, nextClosing, lastOpened, openAt, hyperOf};
+ghost use Rattle.windows.specs.Forms.{lastClosed, nextClosing, lastOpened, hyperOf};
 
 // The number of an instance, or none.
 pub enum Found {
@@ -53,21 +53,6 @@ pub fn last_opened(task: Task, tick: u32) -> Found
     } else {
         Found::At((tick - 1 - task.start) / task.period)
     }
-}
-
-// The instance that is inside its window at a tick.
-pub fn open_at(task: Task, tick: u32) -> Found
-    requires { ⌜ Windowed task ⌝ }
-    ensures { λ r. ⌜ r ≡ openAt task tick ⌝ }
-{
-    let into = tick % task.period;
-    if into < task.start {
-        return Found::Nothing;
-    }
-    if task.end <= into {
-        return Found::Nothing;
-    }
-    Found::At(tick / task.period)
 }
 
 // The least common multiple of all periods; it stops as soon as that is above the longest.
