@@ -25,7 +25,7 @@ use Rattle.theory.proofs.Swept.{opening-digits, closing-digits}
 use Rattle.theory.proofs.Events.{IsEvent, events-up, events-all, few-events}
 use Rattle.theory.proofs.Order.{lives-length}
 use Rattle.theory.proofs.Untils.{plan-fold, count-fold}
-use Rattle.theory.proofs.Seats.{plan-two-each}
+use Rattle.theory.proofs.Seats.{plan-most}
 use Rattle.windows.specs.Windowed.{AllWindowed}
 use Rattle.signals.specs.Forms.{untilOf}
 use Rattle.signals.proofs.Standing.{fits-window}
@@ -168,7 +168,7 @@ module _ (tasks : Tasks) (S : Signals) (grid : Grid) (h s : ℕ) (A : Asked task
     few-held : (n : ℕ) → n ≤ E .count → length (untils [] (lives n)) ≤ mostElements
     few-held n l =
         let (rest, e) = more n l in
-        omega (arith, untils-grow [] (lives n) rest, ap (λ (ls : List Life). length (untils [] ls)) e, count-fold tab F s (A .signal), plan-two-each tab F s (A .signal), F .few-tasks)
+        omega (arith, untils-grow [] (lives n) rest, ap (λ (ls : List Life). length (untils [] ls)) e, count-fold tab F s (A .signal), plan-most tab F s (A .signal))
 
     -- ---- the loop: its start, a turn with and without a value, its end
 

@@ -27,7 +27,7 @@ use Rattle.theory.proofs.Lowest.{lowest-one}
 use Rattle.theory.proofs.Order.{value-of, value-in, lives-length, life-of, plan-order}
 use Rattle.theory.proofs.Apart.{after-lower}
 use Rattle.theory.proofs.Planned.{starts, numbered, plan-count, below, apart, binds}
-use Rattle.theory.proofs.Seats.{plan-two-each}
+use Rattle.theory.proofs.Seats.{plan-most}
 use Rattle.theory.proofs.Sums.{uses-all}
 use Rattle.theory.proofs.Untils.{first-lowest}
 use Rattle.theory.proofs.Bound.{bound-signal, bound-value}
@@ -165,7 +165,7 @@ module _ (tab : Table) (F : Fits tab) (s : ℕ) (y : s < tab .signals) where
   E = plan tab
 
   plan-low : (v : Value) → IsValue tab v → signalOf v ≡ s → elementOf E v < most tab
-  plan-low v x e = omega (arith, below tab F v x, ap (plan tab .count) e, plan-two-each tab F s y, F .few-tasks)
+  plan-low v x e = omega (arith, below tab F v x, ap (plan tab .count) e, plan-most tab F s y)
 
   -- plan order is the order in which values open
   before-in-order : (i j : ℕ) → i < j → j < length (valuesOf tab s) → Before tab (valueOf (valuesOf tab s) i) (valueOf (valuesOf tab s) j)
