@@ -20,7 +20,7 @@ use Rattle.theory.proofs.Tests.{split, and-is}
 use Rattle.theory.proofs.Check.{every-at, every-is}
 use Rattle.machine.specs.declared.Machine.{Machine}
 use Rattle.machine.specs.Calls.{fit, at, closed, moved, readPlace, writePlace, readAt, writtenAt, stepOf, readOf, writeOf}
-use Rattle.machine.specs.Fit.{UnfitExact, StaysFit, RefusedLeaves}
+use Rattle.machine.specs.Fit.{UnfitExact, RefusedLeaves}
 use Rattle.machine.proofs.Steps.{InBounds, fit-keeps}
 
 -- ---- positions
@@ -89,13 +89,13 @@ written-fits m K f word (Place.At p) = at-fits m K (m .tick) (m .held) (save (m 
 written-fits m K f word Place.NoAccess = f
 written-fits m K f word Place.Outside = f
 
-pub stays-fit : (m : Machine) → fit m ≡ true → StaysFit m
-unfolding stepOf writeOf when
-stays-fit m f =
-    record {
-      step = rw f (moved-fits m (fit-keeps m f));
-      write = λ task signal word. rw f (written-fits m (fit-keeps m f) f word (writePlace m task signal));
-    }
+pub step-fits : (m : Machine) → fit m ≡ true → fit (stepOf m .machine) ≡ true
+unfolding stepOf when
+step-fits m f = rw f (moved-fits m (fit-keeps m f))
+
+pub write-fits : (m : Machine) (task signal word : ℕ) → fit m ≡ true → fit (writeOf m task signal word .machine) ≡ true
+unfolding writeOf when
+write-fits m task signal word f = rw f (written-fits m (fit-keeps m f) f word (writePlace m task signal))
 
 -- a fit state's answers are others than Unfit
 module _ (m : Machine) where

@@ -1,6 +1,7 @@
 -- The machine runs as promised: specs/Runs.antt, proved.
 use Prim.Native.Nat.{ℕ}
 use mathlib.Core.Path.{_≡_, refl, sym, ap, ap₂, subst, _∙_}
+use mathlib.Core.Bool.{true}
 use mathlib.Core.List.{List, [], _∷_, _++_, map}
 use native.Mathlib.Omega.{arith}
 use borrow.Author.Tests.{eqb-false}
@@ -25,6 +26,7 @@ use Rattle.machine.specs.declared.Machine.{Machine}
 use Rattle.machine.specs.declared.Stepped.{Stepped}
 use Rattle.machine.specs.declared.WordRead.{WordRead}
 use Rattle.machine.specs.Calls.{unloaded, fit, answered, wordRead, stepOf, readOf, writeOf}
+use Rattle.machine.specs.Gives.{NewGives}
 use Rattle.rows.specs.Fitness.{fitParts}
 use Rattle.machine.specs.Simulates.{Runs, Said, said, outcomeSaid, callSaid, callLeaves}
 use Rattle.machine.specs.Load.{loadLeaves}
@@ -32,7 +34,7 @@ use Rattle.machine.proofs.Fit.{refused-leaves}
 use Rattle.machine.proofs.Simulates.{simulates}
 use Rattle.machine.proofs.Load.{loads-exact, loads-right, refused-stays}
 use Rattle.promises.proofs.Schedules.{passing-done, done-passing}
-use Rattle.promises.specs.Runs.{Gives, loads, steps, reads, writes, Run, none, next, replySaid, storyOf, NextCall, RunsAsPromised, LoadsExactly}
+use Rattle.promises.specs.Runs.{Gives, loads, steps, reads, writes, Run, none, next, replySaid, storyOf, NextCall, AsPromised, RunsAsPromised, LoadsExactly}
 
 -- ---- what the contracts say of each request, as functions
 
@@ -151,9 +153,9 @@ unfolding Promised
 stands-promised m idle untold (fresh n e) = e
 stands-promised m (on t G st) (since u g) (going tab E F A cs n R) = going-on tab E F A cs m R
 
-pub runs-as-promised : RunsAsPromised
+new-promised : (new : Machine) → NewGives new → (es : List Request) (rs : List Said) (m : Machine) → Run new es rs m → AsPromised es rs m
 unfolding Promised
-runs-as-promised new g es rs m R =
+new-promised new g es rs m R =
     let (q, (r, S)) = stands-run es rs new m idle untold (fresh new g) R in
     let p = stands-promised m r (storyOf untold es) S in
     record {
@@ -161,6 +163,17 @@ runs-as-promised new g es rs m R =
       running = λ tab h e. subst (Promised m) e p;
       untouched = λ e. subst (Promised m) e p;
     }
+
+-- an accepted loading leaves of any machine what it leaves of a new one, so the run after it is one of a new machine
+anew-promised : (m : Machine) (table schedule : List ℕ) → accepts table schedule ≡ true → (es : List Request) (rs : List Said) (n : Machine)
+    → Run m (load table schedule ∷ es) rs n → AsPromised (load table schedule ∷ es) rs n
+unfolding loadLeaves
+anew-promised m table schedule q es (a ∷ rs) n (next l k o e b fs bs (loads t s r g) R) =
+    new-promised unloaded refl (load table schedule ∷ es) (a ∷ rs) n
+    (next unloaded (r .machine) n (load table schedule) a es rs (loads table schedule r (g .0, g .1 ∙ rw q)) R)
+
+pub runs-as-promised : RunsAsPromised
+runs-as-promised = record { new = new-promised; anew = anew-promised }
 
 -- ---- loading
 

@@ -14,7 +14,6 @@ use Rattle.machine.specs.declared.Machine.{Machine}
 use Rattle.machine.specs.declared.Stepped.{Stepped}
 use Rattle.machine.specs.Load.{Loads}
 use Rattle.machine.specs.Fit.{UnfitExact, StaysFit, RefusedLeaves}
-use Rattle.machine.specs.Calls.{fit}
 use Rattle.promises.specs.Tables.{TablesExactly}
 use Rattle.promises.specs.Plans.{AllPlansRightly}
 use Rattle.promises.specs.Lists.{AllListsRightly}
@@ -36,9 +35,9 @@ pub record Demand1 : Type 0 where
   pub load : (m : Machine) (table schedule : List ℕ) (r : Stepped) → Loads m table schedule r → Refused (r .answer) → r .machine ≡ m
   -- and not the machine that is stepped, read or written; a refused read has word 0.
   pub calls : (m : Machine) → RefusedLeaves m
-  -- 25 is given exactly on states that are not fit, and no call leads from a fit state to one that is not.
+  -- 25 is given exactly on states that are not fit; no call leads from a fit state to one that is not, and an accepted loading leads from any state to a fit one.
   pub unfit : (m : Machine) → UnfitExact m
-  pub stays-fit : (m : Machine) → fit m ≡ true → StaysFit m
+  pub stays-fit : (m : Machine) → StaysFit m
 
 -- 2. A table is accepted exactly when the rules hold; a schedule exactly when it has the form and bounds, each reader is sent to the value LET gives it
 -- and no two values needed at one tick share an element. The plan is the one fixed plan: it passes the check, no passing schedule gives any signal fewer
@@ -50,9 +49,9 @@ pub record Demand2 : Type 0 where
   pub plans-pass : PlansPass
   pub lists : AllListsRightly
 
--- 3. Loaded with any table and any schedule that passes, then asked anything, refused calls among them, over any number of hyper-periods: no permitted
--- read or write inside its window is refused, and each read gives the value its signal had when that window opened, as worked out from the defaults
--- and the writes since loading alone.
+-- 3. Loaded, whatever its state, with any table and any schedule that passes, then asked anything, refused calls among them, over any number of
+-- hyper-periods: no permitted read or write inside its window is refused, and each read gives the value its signal had when that window opened, as
+-- worked out from the defaults and the writes since loading alone.
 pub record Demand3 : Type 0 where
   pub loads : LoadsExactly
   pub runs : RunsAsPromised

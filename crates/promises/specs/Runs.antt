@@ -11,7 +11,7 @@ use Rattle.rules.specs.Numbers.{told, allDone}
 use Rattle.rules.specs.Bytes.{bytesOf}
 use Rattle.rules.specs.Reading.{tableIn, readSays}
 use Rattle.rules.specs.Meaning.{Call, step, read, write, now, valueAt}
-use Rattle.rules.specs.Loading.{Request, load, call, Reply, Story, untold, since, telling, meantReplies}
+use Rattle.rules.specs.Loading.{Request, load, call, accepts, Reply, Story, untold, since, telling, meantReplies}
 use Rattle.rules.specs.declared.Answer.{Answer}
 use Rattle.theory.specs.Promises.{Permitted}
 use Rattle.machine.specs.declared.Machine.{Machine}
@@ -72,9 +72,12 @@ pub record AsPromised (es : List Request) (rs : List Said) (m : Machine) : Type 
   -- and nothing has happened to the machine where no loading was accepted yet.
   pub untouched : storyOf untold es ≡ untold → m ≡ unloaded
 
--- So it is for all requests, from `Machine::new` on.
-abbrev pub RunsAsPromised : Type 0
-RunsAsPromised = (new : Machine) → NewGives new → (es : List Request) (rs : List Said) (m : Machine) → Run new es rs m → AsPromised es rs m
+-- So it is for all requests, from `Machine::new` on,
+pub record RunsAsPromised : Type 0 where
+  pub new : (m : Machine) → NewGives m → (es : List Request) (rs : List Said) (n : Machine) → Run m es rs n → AsPromised es rs n
+  -- and from an accepted loading on, whatever machine it is made of: a running one, one that was tampered with, memory of zeros.
+  pub anew : (m : Machine) (table schedule : List ℕ) → accepts table schedule ≡ true → (es : List Request) (rs : List Said) (n : Machine)
+      → Run m (load table schedule ∷ es) rs n → AsPromised (load table schedule ∷ es) rs n
 
 -- A loading is accepted exactly where the table is, and the schedule's bytes are those of one that passes; a refused one leaves the machine as it was.
 pub record LoadedExactly (m : Machine) (table schedule : List ℕ) (r : Stepped) : Type 0 where
