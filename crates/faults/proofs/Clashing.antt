@@ -20,7 +20,7 @@ use Rattle.theory.proofs.Check.{every-at, every-is, writer-at, writer-is}
 use Rattle.form.specs.declared.sides.Side.{Side}
 use Rattle.table.proofs.Clashes.{every-fails, every-holds}
 use Rattle.faults.specs.declared.View.{View}
-use Rattle.faults.specs.declared.lives.Held.{Held}
+use Rattle.faults.specs.declared.sharing.Held.{Held}
 use Rattle.faults.specs.declared.untils.Writer.{Writer}
 use Rattle.faults.specs.Faults.{viewTable, viewSchedule, Seen, Has, recordsIn, heldOf, clashing, apartFrom, apartFromEarlier, Kept, writerOf, heldAt, carriedIn}
 use Rattle.faults.proofs.Viewed.{has-of, has-below, held-is}

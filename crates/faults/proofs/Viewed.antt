@@ -32,7 +32,7 @@ use Rattle.sweep.specs.Pass.{gridTable, elementAt, longestBytes, ArePlaces}
 use Rattle.sweep.specs.declared.Places.{Places}
 use Rattle.sweep.proofs.Inspected.{total-within, writer-step, reader-step, writer-inside, reader-inside}
 use Rattle.faults.specs.declared.View.{View}
-use Rattle.faults.specs.declared.lives.Held.{Held}
+use Rattle.faults.specs.declared.sharing.Held.{Held}
 use Rattle.faults.specs.Faults.{viewTable, viewSchedule, readTable, Accepted, Seen, Has, firstOf, recordsIn, clashing}
 
 -- an instance of a task that has records

@@ -21,7 +21,7 @@ use Rattle.sweep.specs.Pass.{elementAt, Inside, ArePlaces}
 use Rattle.sweep.specs.declared.Places.{Places}
 use Rattle.faults.specs.declared.Fault.{Fault}
 use Rattle.faults.specs.declared.View.{View}
-use Rattle.faults.specs.declared.lives.Held.{Held}
+use Rattle.faults.specs.declared.sharing.Held.{Held}
 use Rattle.faults.specs.declared.untils.Writer.{Writer}
 
 -- ---- what a search has at hand

@@ -1,7 +1,7 @@
 // The record for which a schedule of right form does not pass: 21 among the RI, 22 among the WI. Only a refusal pays for the search.
-mod lives;
 mod readers;
 mod search;
+mod sharing;
 mod untils;
 
 pub use search::first_fault;

@@ -1,8 +1,8 @@
 // Record by record, signal after signal, until one is wrong.
 use crate::Fault;
 use crate::View;
-use crate::lives::shares;
 use crate::readers::sent_wrong;
+use crate::sharing::shares;
 use crate::untils::MOST_VALUES;
 use crate::untils::keep_for;
 use form::Side;

@@ -1,8 +1,8 @@
 // A table's bytes read: the records, then rules 7 to 11 on the table as a whole.
 mod apart;
+mod judging;
 mod reading;
 mod sums;
-mod verdict;
 
 pub use reading::TableRead;
 pub use reading::read_table;

@@ -1,5 +1,5 @@
 // Numbers 1 to 11: the sections one after the other, then the table as a whole.
-use crate::verdict::judge;
+use crate::judging::judge;
 use records::Ending;
 use rules::Answer;
 use rules::Signals;

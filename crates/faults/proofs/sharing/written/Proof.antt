@@ -1,9 +1,9 @@
--- `lives::written` meets its contract.
+-- `sharing::written` meets its contract.
 use mathlib.Core.Path.{refl}
 use borrow.Author.Needs.{needs}
 use Rattle.faults.proofs.Viewed.{held-is}
-use Rattle.faults.proofs.lives.written.Statement.{statement}
-use Rattle.faults.proofs.lives.written.Tie as tie
+use Rattle.faults.proofs.sharing.written.Statement.{statement}
+use Rattle.faults.proofs.sharing.written.Tie as tie
 
 returns : tie.Need-returns
 returns c = held-is _ (c .before .before .before .before .element-at .ensures) refl

@@ -1,4 +1,4 @@
--- `lives::apart_from_earlier` meets its contract: no instance of a task below k clashes.
+-- `sharing::apart_from_earlier` meets its contract: no instance of a task below k clashes.
 use mathlib.Core.Path.{_≡_, refl, sym, _∙_}
 use mathlib.Core.Bool.{true}
 use Prim.Native.Nat.{ℕ, _-_, _≤_, _<_}
@@ -13,8 +13,8 @@ use Rattle.faults.specs.Faults.{viewTable, viewSchedule, recordsIn, held
 use Rattle.faults.proofs.Viewed.{has-of, has-below}
 use Rattle.faults.proofs.Clashing.{apart-is, earlier-fails, earlier-holds}
 use Rattle.faults.proofs.Numbered.{writers-asked, in-reach}
-use Rattle.faults.proofs.lives.apart_from_earlier.Statement.{statement}
-use Rattle.faults.proofs.lives.apart_from_earlier.Tie as tie
+use Rattle.faults.proofs.sharing.apart_from_earlier.Statement.{statement}
+use Rattle.faults.proofs.sharing.apart_from_earlier.Tie as tie
 
 abbrev Inv-loop : tie.InvT-loop
 Inv-loop view grid untils task instance held schedule k₀ k =

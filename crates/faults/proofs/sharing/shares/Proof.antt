@@ -1,10 +1,10 @@
--- `lives::shares` meets its contract: the carried value first, then the earlier ones.
+-- `sharing::shares` meets its contract: the carried value first, then the earlier ones.
 use mathlib.Core.Path.{_∙_}
 use borrow.Author.Needs.{needs}
 use Rattle.faults.proofs.Clashing.{shares-carried, shares-earlier}
 use Rattle.faults.proofs.Numbered.{writers-asked, in-reach, value-is}
-use Rattle.faults.proofs.lives.shares.Statement.{statement}
-use Rattle.faults.proofs.lives.shares.Tie as tie
+use Rattle.faults.proofs.sharing.shares.Statement.{statement}
+use Rattle.faults.proofs.sharing.shares.Tie as tie
 
 writer-of-requires : tie.Need-writer-of-requires
 writer-of-requires c κs = let start = c .before in writers-asked _ _ _ (start .pre .0) _ (start .pre .2 .0)

@@ -1,4 +1,4 @@
--- `lives::apart_from` meets its contract: no instance below i clashes.
+-- `sharing::apart_from` meets its contract: no instance below i clashes.
 use mathlib.Core.Path.{_≡_, ap, _∙_}
 use mathlib.Core.Bool.{true, not}
 use Prim.Native.Nat.{ℕ, _-_, _≤_, _<_}
@@ -8,8 +8,8 @@ use borrow.Author.Count.{below-none, below-more}
 use Rattle.table.proofs.Clashes.{every-fails, every-holds}
 use Rattle.faults.specs.Faults.{heldAt, clashing, apartFrom}
 use Rattle.faults.proofs.Viewed.{same-clash}
-use Rattle.faults.proofs.lives.apart_from.Statement.{statement}
-use Rattle.faults.proofs.lives.apart_from.Tie as tie
+use Rattle.faults.proofs.sharing.apart_from.Statement.{statement}
+use Rattle.faults.proofs.sharing.apart_from.Tie as tie
 
 abbrev Inv-loop : tie.InvT-loop
 Inv-loop writer untils records held schedule i₀ i = (i ≤ records) × ((j : ℕ) → j < i → not (clashing (heldAt writer untils schedule j) held) ≡ true)

@@ -2,8 +2,8 @@ use mathlib.Core.Path.{sym, _∙_}
 use native.Mathlib.Omega.{arith}
 use borrow.Author.Needs.{needs}
 use Rattle.table.proofs.Says.{says-no-task, says-long, hyper-ticks, hyper-above}
-use Rattle.table.proofs.verdict.judge.Statement.{statement}
-use Rattle.table.proofs.verdict.judge.Tie as tie
+use Rattle.table.proofs.judging.judge.Statement.{statement}
+use Rattle.table.proofs.judging.judge.Tie as tie
 
 returns : tie.Need-returns
 returns c = says-no-task _ (c .if1 .taken)

@@ -1,7 +1,7 @@
 use borrow.Author.Needs.{needs}
 use Rattle.table.proofs.Says.{says-instances, says-uses, says-clash, says-done}
-use Rattle.table.proofs.verdict.judge_within.Statement.{statement}
-use Rattle.table.proofs.verdict.judge_within.Tie as tie
+use Rattle.table.proofs.judging.judge_within.Statement.{statement}
+use Rattle.table.proofs.judging.judge_within.Tie as tie
 
 returns : tie.Need-returns
 returns c =
