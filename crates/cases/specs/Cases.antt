@@ -5,7 +5,7 @@ use mathlib.Core.Path.{_≡_}
 use mathlib.Core.List.{List, [], _∷_, _++_, map}
 use lib.ListN.{length, replicate}
 use Rattle.rules.specs.Windows.{Table}
-use Rattle.rules.specs.Cases.{A, D, table, writer, reader, plain}
+use Rattle.rules.specs.Cases.{A, D, table, writer, reader, plain, bf, wi, ri, en, bytes-A, bytes-D}
 use Rattle.rules.specs.Numbers.{Told, tell, told}
 use Rattle.rules.specs.Encode.{encode}
 use Rattle.rules.specs.Reading.{readSays}
@@ -65,28 +65,7 @@ pub record Case : Type 0 where
 abbrev case : Asked → Given → Case
 case x g = record { asked = x; answered = g }
 
--- ---- bytes and records
-
--- BF 0 count, WI 0 task instance element, RI 0 task instance element, EN
-abbrev bf : ℕ → List ℕ
-bf n = 0x42 ∷ 0x46 ∷ 0 ∷ n ∷ []
-
-abbrev wi : ℕ → ℕ → ℕ → List ℕ
-wi k i e = 0x57 ∷ 0x49 ∷ 0 ∷ k ∷ 0 ∷ i ∷ e ∷ []
-
-abbrev ri : ℕ → ℕ → ℕ → List ℕ
-ri k i e = 0x52 ∷ 0x49 ∷ 0 ∷ k ∷ 0 ∷ i ∷ e ∷ []
-
-abbrev en : List ℕ
-en = 0x45 ∷ 0x4e ∷ []
-
--- case A's 27 bytes with e = 1, case I with e = 0
-abbrev bytes-A : ℕ → List ℕ
-bytes-A e = bf 2 ++ wi 0 0 1 ++ ri 1 0 0 ++ ri 1 1 e ++ en
-
--- case D with e = 0, case H with e = 1
-abbrev bytes-D : ℕ → List ℕ
-bytes-D e = bf 2 ++ wi 0 0 1 ++ wi 0 1 e ++ ri 1 0 1 ++ en
+-- ---- records
 
 abbrev value : ℕ → ℕ → ℕ → ℕ → ℕ → LiveValue
 value k i a b e = record { task = k; instance = i; from = a; until = b; element = e }

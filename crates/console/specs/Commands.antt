@@ -5,6 +5,7 @@ use mathlib.Core.List.{List}
 use lib.ListN.{length, getD}
 use lib.Dec.{eqb}
 use Rattle.rules.specs.Words.{when}
+use Rattle.rules.specs.Table.{mostLent}
 use Rattle.console.specs.declared.digits.Numeral.{Numeral}
 use Rattle.console.specs.declared.command.Command.{Command}
 use Rattle.console.specs.Ascii.{space, hash, tableName, checkName, loadName, planName, liveName, stepName, readName, writeName, listName}
@@ -15,12 +16,9 @@ use Rattle.console.specs.Digits.{numberOf, isHex}
 abbrev pub anyNumber : ℕ
 anyNumber = 18446744073709551615
 
--- the longest buffer and list that the bench lends, and the most steps in one go
+-- the longest buffer that the bench lends, and the most steps in one go
 abbrev pub mostPlanned : ℕ
 mostPlanned = 29000
-
-abbrev pub mostRecords : ℕ
-mostRecords = 600
 
 abbrev pub mostSteps : ℕ
 mostSteps = 1000000
@@ -77,7 +75,7 @@ withOne name word =
 -- a name and two words
 unfoldable pub withTwo : List ℕ → List ℕ → Command
 withTwo name words =
-    when (sameBytes name liveName) (liveOf (numberOf anyNumber (firstWord words)) (numberOf mostRecords (afterWord words)))
+    when (sameBytes name liveName) (liveOf (numberOf anyNumber (firstWord words)) (numberOf mostLent (afterWord words)))
     (when (sameBytes name readName) (readOf (numberOf anyNumber (firstWord words)) (numberOf anyNumber (afterWord words)))
     Command.Bad)
 

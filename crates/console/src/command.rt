@@ -48,10 +48,11 @@ const WRITE: [u8; 5] = *b"write";
 
 const LIST: [u8; 4] = *b"list";
 
-// The longest buffer and list that the bench lends.
+// The longest buffer that the bench lends.
 pub const MOST_PLANNED: u64 = 29000;
 
-pub const MOST_RECORDS: u64 = 600;
+// As wide as the number it bounds.
+const MOST_RECORDS: u64 = rules::MOST_LENT as u64;
 
 pub const MOST_STEPS: u64 = 1000000;
 

@@ -7,7 +7,7 @@ use native.Mathlib.Nat.{div-mul-le-self, div-le-self}
 use native.Mathlib.Numerals.{add-one}
 use native.Mathlib.Omega.{arith}
 use lib.ListN.{getD, set}
-use Rattle.rules.specs.Table.{longest}
+use Rattle.rules.specs.Table.{mostElements, longest}
 use Rattle.rules.specs.Reading.{tableOf, noTasks, noSignals, noGrid}
 use Rattle.rules.specs.declared.Task.{Task}
 use Rattle.theory.specs.Sweep.{taskIn, tickIn, isOpening, never}
@@ -15,7 +15,7 @@ use Rattle.theory.specs.Chosen.{Choice, sent, taken, followed}
 use Rattle.theory.proofs.Chosen.{free-is}
 use Rattle.elements.specs.declared.Standing.{Standing}
 use Rattle.elements.specs.declared.pass.Access.{Access}
-use Rattle.elements.specs.Steps.{mostElements, freeIn, choiceOf}
+use Rattle.elements.specs.Steps.{freeIn, choiceOf}
 use Rattle.elements.specs.Pass.{readsBy, writesBy, Opens, turnOf}
 
 -- the lowest free element: no table has more

@@ -9,12 +9,12 @@ use native.Mathlib.Omega.{arith}
 use lib.ListN.{length, getD, set, take, length-take, List·getD-append}
 use lib.Seq.{take-suc, take-length}
 use Rattle.rules.specs.Windows.{Table, opens, closes, instance, instances, hyper}
-use Rattle.rules.specs.Table.{mostTasks, longest, Fits}
+use Rattle.rules.specs.Table.{mostTasks, mostElements, longest, Fits}
 use Rattle.rules.specs.Schedule.{most}
 use Rattle.rules.specs.Reading.{Grid, taskOf, writesIn, readsIn, noSignals}
 use Rattle.rules.specs.declared.Tasks.{Tasks}
-use Rattle.theory.specs.Sweep.{taskIn, tickIn, isOpening, events, through}
-use Rattle.theory.specs.Chosen.{Choice, freeElement, sent, taken, followed, reads, takes, publishes, opened, closed, choose, unchosen, chosen}
+use Rattle.theory.specs.Sweep.{taskIn, tickIn, isOpening, events, through, opened, closed, acted}
+use Rattle.theory.specs.Chosen.{Choice, freeElement, sent, taken, followed, reads, takes, publishes, choose, unchosen, chosen}
 use Rattle.theory.proofs.Tests.{split, holds}
 use Rattle.theory.proofs.Lists.{all-at}
 use Rattle.theory.proofs.Time.{instance-is, closes-le}
@@ -28,7 +28,6 @@ use Rattle.events.specs.declared.Events.{Events}
 use Rattle.events.proofs.Alone.{events-alone}
 use Rattle.elements.specs.declared.pass.Access.{Access}
 use Rattle.elements.specs.declared.pass.Numbers.{Numbers}
-use Rattle.elements.specs.Steps.{mostElements}
 use Rattle.elements.specs.Pass.{Turns, turnOf, passTable, Ready}
 
 -- ---- elements stay elements
@@ -62,13 +61,13 @@ low-if true c d L M = L
 low-if false c d L M = M
 
 low-choose : (tab : Table) (s : ℕ) (c : Choice) (n : ℕ) → Low c → Low (choose tab s c n)
-unfolding choose
+unfolding acted
 low-choose tab s c n L =
     let t = tickIn n in
     let k = taskIn n in
     let d = cond (tab .reads s k) (reads tab s c k t) c in
     let M : Low d = low-if (tab .reads s k) (reads tab s c k t) c (low-sent c _ _ L) L in
-    low-if (isOpening n) (opened tab s c k t) (closed tab s c k (t - 1))
+    low-if (isOpening n) (opened tab s (reads tab s) (takes tab s) c k t) (closed tab s (publishes tab s) c k (t - 1))
     (low-if (tab .writes s k) (takes tab s d k t) d (low-taken d _ k (freeElement tab (d .held) t) (free-low tab (d .held) t) M) M)
     (low-if (tab .writes s k) (publishes tab s c k (t - 1)) c (low-followed c k _ L) L)
 
@@ -188,7 +187,7 @@ module _ (tasks : Tasks) (grid : Grid) (s : ℕ) where
               omega (arith, F .window k a)
 
       turn-is : (c : Choice) → turnOf (taskOf tasks (taskIn event)) (access (readsIn grid s (taskIn event)) (writesIn grid s (taskIn event))) event c ≡ choose tab s c event
-      unfolding turnOf choose
+      unfolding turnOf acted
       turn-is c =
           rw (R .readers (taskIn event) one-task, R .writers (taskIn event) one-task)
           (split (isOpening event) (λ q. rw q) (λ q. rw (q, closes-later q)))

@@ -2,13 +2,10 @@
 use Prim.Native.Nat.{ℕ, _-_}
 use mathlib.Core.List.{List}
 use lib.ListN.{take}
+use Rattle.rules.specs.Table.{mostElements}
 use Rattle.theory.specs.Untils.{firstFree}
 use Rattle.theory.specs.Chosen.{Choice}
 use Rattle.elements.specs.declared.Standing.{Standing}
-
--- the most elements of one signal
-abbrev pub mostElements : ℕ
-mostElements = 32
 
 -- the lowest that is not held past t
 abbrev pub freeIn : List ℕ → ℕ → ℕ

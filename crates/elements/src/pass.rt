@@ -18,8 +18,9 @@ use signals::writes;
 ghost use mathlib.Core.List.{List};
 ghost use mathlib.Core.Path.{_≡_};
 ghost use Prim.Native.Nat.{ℕ, _<_};
+ghost use Rattle.rules.specs.Table.{mostElements};
 ghost use Rattle.theory.specs.Chosen.{chosen};
-ghost use Rattle.elements.specs.Steps.{mostElements, choiceOf};
+ghost use Rattle.elements.specs.Steps.{choiceOf};
 ghost use Rattle.elements.specs.Pass.{Opens, readsBy, writesBy, Turns, turnOf, passTable, Ready};
 
 // The numbers of each task's first uses of a signal, as a writer and as a reader.

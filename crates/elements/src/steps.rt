@@ -2,15 +2,16 @@
 use crate::LAST;
 use crate::NEVER;
 use crate::Standing;
+use fields::larger;
 use rules::MOST_ELEMENTS;
 use rules::MOST_TASKS;
 use rules::MOST_USES;
 ghost use mathlib.Core.List.{List};
 ghost use mathlib.Core.Path.{_≡_};
-ghost use Prim.Native.Nat.{ℕ, _<_, _≤_, max};
-ghost use Rattle.rules.specs.Table.{mostTasks, mostUses};
+ghost use Prim.Native.Nat.{ℕ, _<_, _≤_};
+ghost use Rattle.rules.specs.Table.{mostTasks, mostUses, mostElements};
 ghost use Rattle.theory.specs.Chosen.{sent, taken, followed};
-ghost use Rattle.elements.specs.Steps.{mostElements, freeIn, choiceOf};
+ghost use Rattle.elements.specs.Steps.{freeIn, choiceOf};
 
 // The lowest element that is not held past the tick. One always is free, so that the last is not asked.
 pub fn first_free(held: &[u32; MOST_ELEMENTS], tick: u32) -> usize
@@ -24,12 +25,6 @@ pub fn first_free(held: &[u32; MOST_ELEMENTS], tick: u32) -> usize
         e += 1;
     }
     e
-}
-
-pub fn larger(a: u32, b: u32) -> u32
-    ensures { λ r. ⌜ r ≡ max a b ⌝ }
-{
-    if a <= b { b } else { a }
 }
 
 // A reader gets the element that stands, which is held until the reader closes.

@@ -10,7 +10,7 @@ use borrow.Author.Tests.{eqb-true, eqb-false}
 use Rattle.rules.specs.Words.{total, times}
 use Rattle.rules.specs.Windows.{Table, hyper, instances}
 use Rattle.rules.specs.Values.{carried, by, until}
-use Rattle.rules.specs.Table.{mostTasks, mostInstances, Fits}
+use Rattle.rules.specs.Table.{mostTasks, mostInstances, mostValues, Fits}
 use Rattle.rules.specs.Bytes.{writersBelow}
 use Rattle.rules.specs.Reading.{Grid, writesIn}
 use Rattle.theory.proofs.Tests.{split}
@@ -20,7 +20,7 @@ use Rattle.sweep.proofs.Inspected.{total-within}
 use Rattle.sweep.proofs.Rows.{row-few}
 use Rattle.faults.specs.declared.View.{View}
 use Rattle.faults.specs.declared.untils.Writer.{Writer}
-use Rattle.faults.specs.Faults.{viewTable, viewSchedule, Seen, Has, recordsIn, heldOf, mostValues, numberOf, KeptBelow, KeptTo, Kept, KeptFor, writerOf, heldAt, InReach}
+use Rattle.faults.specs.Faults.{viewTable, viewSchedule, Seen, Has, recordsIn, heldOf, numberOf, KeptBelow, KeptTo, Kept, KeptFor, writerOf, heldAt, InReach}
 use Rattle.faults.proofs.Viewed.{has-of, has-below, none-below, place-is, places-apart, written-is, within, held-is}
 
 module _ (v : View) (grid : Grid) where

@@ -8,7 +8,7 @@ use lib.ListN.{length, getD}
 use Rattle.rules.specs.Words.{gather, times, every, when}
 use Rattle.rules.specs.Windows.{Table, hyper, instances}
 use Rattle.rules.specs.Values.{Value, carried, by, opening, until}
-use Rattle.rules.specs.Table.{longest, mostInstances, Fits}
+use Rattle.rules.specs.Table.{longest, mostInstances, mostValues, Fits}
 use Rattle.rules.specs.Schedule.{Schedule, elementOf}
 use Rattle.rules.specs.Bytes.{Part, writersBelow, startOf, scheduleLength, scheduleIn}
 use Rattle.rules.specs.Numbers.{Told, tell}
@@ -105,9 +105,6 @@ apartFromEarlier tab grid E s held k i =
     every k (λ l. apartFrom (λ j. heldOf tab E (by s l j)) held (recordsIn tab grid Side.Writers s l)) && apartFrom (λ j. heldOf tab E (by s k j)) held i
 
 -- ---- lives that are kept
-
-abbrev pub mostValues : ℕ
-mostValues = mostInstances + 1
 
 module _ (v : View) (grid : Grid) where
   -- the number of the WI of instance i of task k among those of the signal

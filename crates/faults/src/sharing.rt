@@ -2,13 +2,13 @@
 use crate::View;
 use crate::search::records_of;
 use crate::untils::CARRIED_AT;
-use crate::untils::MOST_VALUES;
 use crate::untils::Writer;
 use crate::untils::writer_of;
 use form::Side;
 use rules::CARRIED_ELEMENT;
 use rules::MOST_SIGNALS;
 use rules::MOST_TASKS;
+use rules::MOST_VALUES;
 use sweep::element_at;
 ghost use mathlib.Core.Path.{_≡_};
 ghost use Prim.Native.Nat.{ℕ, _<_};

@@ -5,6 +5,7 @@ use form::Side;
 use rules::MOST_INSTANCES;
 use rules::MOST_SIGNALS;
 use rules::MOST_TASKS;
+use rules::MOST_VALUES;
 use rules::USE_BYTES;
 use signals::until;
 ghost use mathlib.Core.Path.{_≡_};
@@ -12,14 +13,12 @@ ghost use mathlib.Core.List.{List};
 ghost use Prim.Native.Nat.{ℕ, suc, _≤_, _<_};
 ghost use lib.ListN.{length, getD};
 ghost use Rattle.rules.specs.Values as values;
-ghost use Rattle.rules.specs.Table.{mostTasks};
+ghost use Rattle.rules.specs.Table.{mostTasks, mostValues};
 ghost use Rattle.form.specs.declared.sides.Side.{Side};
-ghost use Rattle.faults.specs.Faults.{viewTable, Seen, Has, writerOf, mostValues, KeptTo, Kept, KeptFor};
+ghost use Rattle.faults.specs.Faults.{viewTable, Seen, Has, writerOf, KeptTo, Kept, KeptFor};
 
-// A signal has at most as many WI as all tasks have instances, and a carried value.
+// A signal has at most as many WI as all tasks have instances; the carried value stands after them.
 pub const CARRIED_AT: usize = MOST_INSTANCES as usize;
-
-pub const MOST_VALUES: usize = CARRIED_AT + 1;
 
 // The WI of one task: where the element of the first stands, which number it has among those of the signal, and when it opens.
 pub struct Writer {

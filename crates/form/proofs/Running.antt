@@ -5,6 +5,7 @@ use Prim.Native.Nat.{ℕ, zero, suc, _+_, _*_, _≤_, zero-le}
 use native.Mathlib.Nat.{le-refl}
 use native.Mathlib.Omega.{arith}
 use borrow.Author.Tests.{ltb-false}
+use Rattle.rules.specs.Table.{mostElements}
 use Rattle.fields.proofs.Whens.{over}
 use Rattle.rules.specs.Words.{gather}
 use Rattle.rules.specs.Fields.{WI, RI, byteAt}
@@ -13,7 +14,7 @@ use Rattle.rules.specs.Reading.{Grid}
 use Rattle.form.specs.declared.sides.Side.{Side}
 use Rattle.form.specs.declared.forms.Place.{Place}
 use Rattle.form.specs.declared.forms.Walk.{Walk}
-use Rattle.form.specs.Records.{mostElements, useOf, usersOf, sideParts, sidesParts, signalParts, partsIn}
+use Rattle.form.specs.Records.{useOf, usersOf, sideParts, sidesParts, signalParts, partsIn}
 use Rattle.form.specs.Form.{walked, step, signalStep, useStep}
 
 -- ---- n signals' own records stand before the list, m before its end

@@ -4,6 +4,7 @@ use mathlib.Core.List.{List, [], _∷_}
 use Prim.Native.Nat.{ℕ, _+_, _/_, _%_}
 use lib.Dec.{ltb, leb, eqb}
 use lib.ListN.{length}
+use Rattle.rules.specs.Table.{mostElements, words}
 use Rattle.rules.specs.Words.{when}
 use Rattle.rules.specs.Windows.{Table}
 use Rattle.rules.specs.Schedule.{room, base}
@@ -12,7 +13,7 @@ use Rattle.rules.specs.Bytes.{Part, bf, wi, ri, parts, scheduleIn}
 use Rattle.rules.specs.Numbers.{Told, tell, allDone, sumAbove}
 use Rattle.rules.specs.Answers.{recordsSay, endSays}
 use Rattle.rules.specs.declared.Answer.{Answer}
-use Rattle.form.specs.Records.{bfBytes, useBytes, enBytes, mostElements, mostInAll}
+use Rattle.form.specs.Records.{bfBytes, useBytes, enBytes}
 use Rattle.form.specs.declared.forms.Place.{Place}
 use Rattle.form.specs.declared.forms.Walk.{Walk}
 
@@ -93,7 +94,7 @@ endStep bytes place =
     when (not (holdsAt bytes (place .at) enBytes)) (Answer.ScheduleCut (place .at))
     (when (not (markAt bytes (place .at) EN)) (Answer.NotFixed (place .at))
     (when (ltb (place .at + enBytes) (length bytes)) (Answer.AfterSchedule (place .at + enBytes))
-    (when (ltb mostInAll (place .sum)) Answer.SumAbove
+    (when (ltb words (place .sum)) Answer.SumAbove
     (Answer.Done 0))))
 
 abbrev pub endOf : List ℕ → Walk → Answer

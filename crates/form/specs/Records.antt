@@ -51,13 +51,6 @@ useBytes = 7
 abbrev pub enBytes : ℕ
 enBytes = 2
 
--- the most elements of one signal, and of all together
-abbrev pub mostElements : ℕ
-mostElements = 32
-
-abbrev pub mostInAll : ℕ
-mostInAll = 256
-
 -- the most bytes that the records of one signal can take
 abbrev pub longestSignal : ℕ
 longestSignal = bfBytes + useBytes * (2 * (mostTasks * longest))

@@ -1,5 +1,4 @@
 // The form of a schedule that was made elsewhere: every byte that the table fixes, every count and every element, in one pass.
-use crate::LOW_AT;
 use crate::sides::Side;
 use crate::sides::instances_of;
 use crate::sides::mark_of;
@@ -15,6 +14,7 @@ use rules::ELEMENT_AT;
 use rules::EN;
 use rules::EN_BYTES;
 use rules::INSTANCE_AT;
+use rules::LOW_AT;
 use rules::MOST_ELEMENTS;
 use rules::MOST_SIGNALS;
 use rules::MOST_TASKS;
@@ -27,13 +27,13 @@ ghost use mathlib.Core.Path.{_≡_};
 ghost use mathlib.Core.List.{[], _∷_};
 ghost use Prim.Native.Nat.{_<_, _≤_, _*_, _+_};
 ghost use lib.ListN.{length};
-ghost use Rattle.rules.specs.Table.{mostTasks, mostSignals};
+ghost use Rattle.rules.specs.Table.{mostTasks, mostSignals, mostElements};
 ghost use Rattle.rules.specs.Numbers.{told};
 ghost use Rattle.rules.specs.Reading.{tableOf};
 ghost use Rattle.rules.specs.declared.Signals.{Signals};
 ghost use Rattle.form.specs.declared.forms.Walk.{Walk};
 ghost use Rattle.form.specs.declared.sides.Side.{Side};
-ghost use Rattle.form.specs.Records.{Ready, bfBytes, useBytes, mostElements, markOf, instanceParts, sideParts, sidesParts, signalParts, partsIn};
+ghost use Rattle.form.specs.Records.{Ready, bfBytes, useBytes, markOf, instanceParts, sideParts, sidesParts, signalParts, partsIn};
 ghost use Rattle.form.specs.Form.{formSays, bfStands, instanceStands, useStands, signalStep, useStep, walked, step, endStep};
 
 // As wide as the byte it bounds.

@@ -10,6 +10,3 @@ pub use sides::instances_of;
 pub use sides::mark_of;
 pub use sides::permitted;
 pub use sides::users;
-
-// The low byte of an instance follows its high byte.
-pub const LOW_AT: usize = rules::INSTANCE_AT + 1;

@@ -14,6 +14,7 @@ use Rattle.rules.specs.Table.{mostTasks, Fits}
 use Rattle.rules.specs.Plan.{writersOf}
 use Rattle.theory.specs.Sweep.{closingNumber, openingNumber, taskIn, tickIn, isOpening, openingsAt, closingsAfter, events}
 use Rattle.theory.proofs.Tests.{split}
+use Rattle.theory.proofs.Lists.{flat-append, flat-gather}
 use Rattle.theory.proofs.Swept.{opening-digits, closing-digits}
 use Rattle.lives.specs.Values.{writesAt}
 
@@ -45,16 +46,6 @@ module _ {A : Type 0} where
   unfolding gather flatMap
   gather-list f [] = refl
   gather-list f (x ∷ xs) = gather-first (λ i. f (getD (x ∷ xs) i 0)) (length xs) ∙ ap {B = List A} (λ l. f x ++ l) (gather-list f xs)
-
-  flat-append : (f : ℕ → List A) (xs ys : List ℕ) → flatMap f (xs ++ ys) ≡ flatMap f xs ++ flatMap f ys
-  unfolding flatMap
-  flat-append f [] ys = refl
-  flat-append f (x ∷ xs) ys = ap {B = List A} (λ l. f x ++ l) (flat-append f xs ys) ∙ sym (append-assoc (f x) (flatMap f xs) (flatMap f ys))
-
-  flat-gather : (f : ℕ → List A) (g : ℕ → List ℕ) (n : ℕ) → flatMap f (gather n g) ≡ gather n (λ k. flatMap f (g k))
-  unfolding gather flatMap
-  flat-gather f g zero = refl
-  flat-gather f g (suc n) = flat-append f (gather n g) (g n) ∙ ap (λ (l : List A). l ++ flatMap f (g n)) (flat-gather f g n)
 
   flat-only : (f : ℕ → List A) (b : Bool) (x : ℕ) → f x ≡ [] → flatMap f (only b x) ≡ []
   unfolding flatMap
@@ -91,12 +82,12 @@ module _ (tab : Table) (F : Fits tab) (s : ℕ) where
   openings : (t : ℕ) → flatMap opened (openingsAt tab t) ≡ gather (tab .tasks) (λ k. only (opensAt tab t s k) (by s k (instance tab k t)))
   unfolding opensAt
   openings t =
-      flat-gather opened _ (tab .tasks)
+      flat-gather opened _ _ (tab .tasks) (λ k. refl)
       ∙ gather-same _ _ (tab .tasks) (λ k h. both-tests (eqb (opens tab k (instance tab k t)) t) (tab .writes s k) (openingNumber t k) (by s k (instance tab k t)) (at-opening t k (omega (arith, F .few-tasks))))
 
   closings : (t : ℕ) → flatMap opened (closingsAfter tab t) ≡ []
   closings t =
-      flat-gather opened _ (tab .tasks)
+      flat-gather opened _ _ (tab .tasks) (λ k. refl)
       ∙ gather-same _ (λ k. []) (tab .tasks) (λ k h. flat-only opened (eqb (closes tab k (instance tab k t)) (suc t)) (closingNumber (suc t) k) (at-closing (suc t) k (omega (arith, F .few-tasks))))
       ∙ none-gathered (tab .tasks)
 
@@ -104,5 +95,5 @@ module _ (tab : Table) (F : Fits tab) (s : ℕ) where
   unfolding events writersOf
   opened-all =
       gather-list opened (events tab)
-      ∙ flat-gather opened (λ t. openingsAt tab t ++ closingsAfter tab t) (hyper tab)
+      ∙ flat-gather opened (λ t. openingsAt tab t ++ closingsAfter tab t) _ (hyper tab) (λ t. refl)
       ∙ gather-same _ _ (hyper tab) (λ t h. flat-append opened (openingsAt tab t) (closingsAfter tab t) ∙ ap₂ (λ (x y : List Value). x ++ y) (openings t) (closings t) ∙ append-nil _)

@@ -1,37 +1,23 @@
 -- A signal has at most as many writer instances as the table has instances. Assumes nothing.
 use mathlib.Core.Bool.{true}
 use mathlib.Core.List.{List, [], _∷_, map}
-use mathlib.Core.Logic.{_⊎_, inl, inr, ⊎-elim}
+use mathlib.Core.Logic.{⊎-elim}
 use mathlib.Core.Path.{_≡_, refl, sym, ap, subst, _∙_}
-use Prim.Native.Nat.{ℕ, zero, suc, _+_, _≤_, _<_, zero-le, suc-le-suc}
-use native.Mathlib.Nat.{not-suc-le-zero}
+use Prim.Native.Nat.{ℕ, suc, _+_, _≤_, _<_, zero-le, suc-le-suc}
 use native.Mathlib.Omega.{arith}
 use lib.Dec.{eqb}
 use lib.ListN.{length, length-map}
-use borrow.Author.Tests.{eqb-true, eqb-false}
+use borrow.Author.Tests.{eqb-true}
 use Rattle.rules.specs.Words.{total}
 use Rattle.rules.specs.Windows.{Table, instances}
 use Rattle.rules.specs.Values.{Value, carried, by, signalOf, IsValue}
-use Rattle.rules.specs.Table.{Fits}
+use Rattle.rules.specs.Table.{mostValues, Fits}
 use Rattle.rules.specs.Plan.{valuesOf}
 use Rattle.theory.specs.Promises.{valueOf}
-use Rattle.theory.proofs.Tests.{split, or-cases, no-test, not-both}
+use Rattle.theory.proofs.Tests.{or-cases, no-test, not-both}
+use Rattle.theory.proofs.Sums.{block-lt, block-one}
 use Rattle.theory.proofs.Pigeonhole.{has, Distinct, distinct}
 use Rattle.theory.proofs.Order.{value-of, value-once}
-use Rattle.lives.specs.Values.{mostValues}
-
--- numbers one after the other, f k of them for each k
-total-upto : (f : ℕ → ℕ) (m n : ℕ) → m ≤ n → total f m ≤ total f n
-unfolding total
-total-upto f m zero h = let e : m ≡ 0 = omega arith in rw e (omega arith)
-total-upto f m (suc n) h =
-    split (eqb m (suc n))
-    (λ q. rw (eqb-true m (suc n) q) (omega arith))
-    (λ q. let z = eqb-false m (suc n) q in omega (arith, total-upto f m n (omega arith)))
-
-number-lt : (f : ℕ → ℕ) (k i n : ℕ) → k < n → i < f k → total f k + i < total f n
-unfolding total
-number-lt f k i n h l = let z : total f (suc k) ≡ total f k + f k = refl in omega (arith, total-upto f (suc k) n h)
 
 -- where a test by number is met, a value meets it
 has-map : (f : Value → ℕ) (z : ℕ) (vs : List Value) → has z (map f vs) ≡ true → (i : ℕ) × (i < length vs) × (f (valueOf vs i) ≡ z)
@@ -55,18 +41,15 @@ module _ (tab : Table) (F : Fits tab) (s : ℕ) (y : s < tab .signals) where
 
   number-one : (u v : Value) → IsValue tab u → IsValue tab v → signalOf u ≡ signalOf v → numberOf u ≡ numberOf v → u ≡ v
   number-one (carried r) (carried q) a b e n = ap carried e
-  number-one (carried r) (by q k i) a b e n = absurd (omega (arith, number-lt (instances tab) k i (tab .tasks) (b .1) (b .3)))
-  number-one (by r k i) (carried q) a b e n = absurd (omega (arith, number-lt (instances tab) k i (tab .tasks) (a .1) (a .3)))
+  number-one (carried r) (by q k i) a b e n = absurd (omega (arith, block-lt (instances tab) k i (tab .tasks) (b .1) (b .3)))
+  number-one (by r k i) (carried q) a b e n = absurd (omega (arith, block-lt (instances tab) k i (tab .tasks) (a .1) (a .3)))
   number-one (by r k i) (by q l j) a b e n =
-      let c : ¬ (k < l) = λ h. let z : ⊥ = omega (arith, number-lt (instances tab) k i l h (a .3)) in z in
-      let d : ¬ (l < k) = λ h. let z : ⊥ = omega (arith, number-lt (instances tab) l j k h (b .3)) in z in
-      let z : k ≡ l = omega arith in
-      let w : i ≡ j = omega (arith, ap (total (instances tab)) z) in
-      ap (λ (r : ℕ). by r k i) e ∙ ap (λ (k : ℕ). by q k i) z ∙ ap (by q l) w
+      let z = block-one (instances tab) k i l j (a .3) (b .3) n in
+      ap (λ (r : ℕ). by r k i) e ∙ ap (λ (k : ℕ). by q k i) (z .0) ∙ ap (by q l) (z .1)
 
   number-low : (v : Value) → IsValue tab v → numberOf v < suc (total (instances tab) (tab .tasks))
   number-low (carried r) a = omega arith
-  number-low (by r k i) a = omega (arith, number-lt (instances tab) k i (tab .tasks) (a .1) (a .3))
+  number-low (by r k i) a = omega (arith, block-lt (instances tab) k i (tab .tasks) (a .1) (a .3))
 
   pub few-values : length (valuesOf tab s) ≤ mostValues
   few-values =

@@ -11,7 +11,7 @@ use Rattle.rules.specs.Words.{gather, only}
 use Rattle.rules.specs.Windows as windows
 use Rattle.rules.specs.Windows.{Table, opens, closes, instance}
 use Rattle.rules.specs.Values.{Value, carried, by, Life, life, IsValue}
-use Rattle.rules.specs.Table.{mostTasks, mostSignals, longest, Fits}
+use Rattle.rules.specs.Table.{mostTasks, mostSignals, mostValues, mostElements, longest, Fits}
 use Rattle.rules.specs.Plan.{Placed, Line, lineOf, writersOf, valuesOf, livesOf, liveList}
 use Rattle.rules.specs.Reading.{Grid, tableOf, taskOf, writesIn, readsIn, noGrid}
 use Rattle.rules.specs.declared.Tasks.{Tasks}
@@ -33,10 +33,10 @@ use Rattle.signals.proofs.Lives.{until-is}
 use Rattle.events.specs.Order.{tasksTable, mostEvents, ordered}
 use Rattle.events.specs.declared.Events.{Events}
 use Rattle.events.proofs.Alone.{fits-alone, hyper-alone, events-alone}
-use Rattle.elements.specs.Steps.{mostElements, freeIn}
+use Rattle.elements.specs.Steps.{freeIn}
 use Rattle.lives.specs.declared.LiveValue.{LiveValue}
 use Rattle.lives.specs.Lives.{valueOf, liveValues}
-use Rattle.lives.specs.Values.{mostValues, shown, blank, padded, writesAt, lifeBy, carriedBy, Opening, Asked, livesBelow, Held}
+use Rattle.lives.specs.Values.{shown, blank, padded, writesAt, lifeBy, carriedBy, Opening, Asked, livesBelow, Held}
 use Rattle.lives.proofs.Along.{gather-more, gather-same, openedBy, opened, opened-all}
 use Rattle.lives.proofs.Held.{untils-grow, length-fold, held-more}
 use Rattle.lives.proofs.Few.{few-values}

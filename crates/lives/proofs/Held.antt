@@ -8,15 +8,16 @@ use lib.Dec.{eqb}
 use lib.ListN.{length, getD, set, replicate, length-append, length-set, length-replicate, length-map, getD-replicate}
 use lib.Seq.{set-at, append-snoc}
 use borrow.Author.Tests.{ltb-true, ltb-false, eqb-true, eqb-false}
+use Rattle.rules.specs.Table.{mostValues, mostElements}
 use Rattle.rules.specs.Values.{Life}
 use Rattle.rules.specs.Plan.{Placed}
 use Rattle.theory.specs.Untils.{firstFree, hold, holding, fold, untils}
 use Rattle.theory.proofs.Tests.{split}
 use Rattle.theory.proofs.Untils.{first-lowest, first-within, hold-used, hold-new}
-use Rattle.elements.specs.Steps.{mostElements, freeIn}
+use Rattle.elements.specs.Steps.{freeIn}
 use Rattle.elements.proofs.Passed.{free-in}
 use Rattle.lives.specs.declared.LiveValue.{LiveValue}
-use Rattle.lives.specs.Values.{mostValues, shown, blank, padded, Held}
+use Rattle.lives.specs.Values.{shown, blank, padded, Held}
 
 -- ---- the lives placed one after the other
 

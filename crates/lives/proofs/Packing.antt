@@ -8,10 +8,11 @@ use lib.ListN.{length, getD, set, drop, length-set}
 use lib.Seq.{getD-set-same, getD-set-other}
 use lib.Dec.{eqb}
 use borrow.Author.Tests.{eqb-true, eqb-false}
+use Rattle.rules.specs.Table.{mostValues}
 use Rattle.theory.proofs.Tests.{split}
 use Rattle.lives.specs.declared.LiveValue.{LiveValue}
 use Rattle.lives.specs.declared.Lives.{Lives}
-use Rattle.lives.specs.Values.{mostValues, recordIn, filledFrom, firsts, valueAt, filled}
+use Rattle.lives.specs.Values.{recordIn, filledFrom, firsts, valueAt, filled}
 
 module _ (ws : List ℕ) (k a b c d e : ℕ) where
   abbrev one : List ℕ

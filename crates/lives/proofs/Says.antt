@@ -8,7 +8,7 @@ use lib.ListN.{length, getD, drop, replicate, length-map, List·getD-append}
 use borrow.Author.Tests.{le-leb, eq-eqb, ne-eqb}
 use Rattle.rules.specs.Words.{gather}
 use Rattle.rules.specs.Windows.{Table, hyper}
-use Rattle.rules.specs.Table.{Fits}
+use Rattle.rules.specs.Table.{mostValues, Fits}
 use Rattle.rules.specs.Plan.{lineOf, lines, liveList}
 use Rattle.rules.specs.Numbers.{Told, tell, told, allDone}
 use Rattle.rules.specs.Answers.{liveSays}
@@ -24,7 +24,7 @@ use Rattle.table.proofs.Exact.{answer-says, table-is, hyper-read}
 use Rattle.lives.specs.declared.LiveValue.{LiveValue}
 use Rattle.lives.specs.declared.Lives.{Lives}
 use Rattle.lives.specs.Lives.{valueOf, liveValues, liveTold, liveFront}
-use Rattle.lives.specs.Values.{mostValues, blank, padded, Asked, firsts, valueAt, filled, Fills}
+use Rattle.lives.specs.Values.{blank, padded, Asked, firsts, valueAt, filled, Fills}
 
 -- the values in the array's first places are the list
 firsts-listed : (f : ℕ → LiveValue) (n : ℕ) → firsts f n ≡ listed f n

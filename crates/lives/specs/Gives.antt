@@ -3,11 +3,12 @@ use Prim.Native.Nat.{ℕ, min}
 use mathlib.Core.Path.{_≡_}
 use mathlib.Core.List.{List}
 use lib.ListN.{length, replicate}
+use Rattle.rules.specs.Table.{mostLent}
 use Rattle.rules.specs.Numbers.{told}
 use Rattle.rules.specs.declared.Answer.{Answer}
 use Rattle.lives.specs.declared.LiveValue.{LiveValue}
 use Rattle.lives.specs.declared.list.Lived.{Lived}
-use Rattle.lives.specs.Lives.{liveTold, liveFront, liveOut, mostLent}
+use Rattle.lives.specs.Lives.{liveTold, liveFront, liveOut}
 
 -- r is what `live_list` answers for these table bytes, this signal and this lent list, and `after` what it leaves in the list
 abbrev pub ListGives : (table : List ℕ) (signal : ℕ) (list : List LiveValue) → Answer → (after : List LiveValue) → Type 0

@@ -31,7 +31,3 @@ liveFront table s lent list =
 -- the whole list is lent
 abbrev pub liveOut : List ℕ → ℕ → List LiveValue → List LiveValue
 liveOut table s list = liveFront table s (length list) list
-
--- the most records that a caller without a list of its own is lent
-abbrev pub mostLent : ℕ
-mostLent = 600

@@ -8,7 +8,7 @@ use Rattle.rules.specs.Words.{gather, only}
 use Rattle.rules.specs.Windows.{Table, instance}
 use Rattle.rules.specs.Windows as windows
 use Rattle.rules.specs.Values.{Value, carried, by, Life}
-use Rattle.rules.specs.Table.{mostTasks, mostSignals, mostInstances, longest, Fits}
+use Rattle.rules.specs.Table.{mostTasks, mostSignals, mostValues, mostElements, longest, Fits}
 use Rattle.rules.specs.Plan.{Placed, lineOf}
 use Rattle.rules.specs.Reading.{Grid, tableOf, taskOf, writesIn, readsIn}
 use Rattle.rules.specs.Numbers.{told}
@@ -16,17 +16,12 @@ use Rattle.rules.specs.declared.Task.{Task}
 use Rattle.rules.specs.declared.Tasks.{Tasks}
 use Rattle.rules.specs.declared.Signals.{Signals}
 use Rattle.theory.specs.Untils.{fold, untils}
-use Rattle.elements.specs.Steps.{mostElements}
 use Rattle.theory.specs.Sweep.{taskIn, tickIn, isOpening}
 use Rattle.windows.specs.Windowed.{AllWindowed}
 use Rattle.signals.specs.Forms.{untilOf}
 use Rattle.lives.specs.declared.LiveValue.{LiveValue}
 use Rattle.lives.specs.declared.Lives.{Lives}
 use Rattle.lives.specs.Lives.{valueOf, liveTold, liveFront}
-
--- the most values of one signal
-abbrev pub mostValues : ℕ
-mostValues = mostInstances + 1
 
 -- a placed value as a record
 abbrev pub shown : Placed → LiveValue

@@ -4,12 +4,8 @@ mod values;
 mod words;
 
 pub use list::Lived;
-pub use list::MOST_LENT;
 pub use list::lent;
 pub use list::live_list;
-
-// The most values of one signal: the carried one, and one for each instance.
-pub const MOST_VALUES: usize = rules::MOST_INSTANCES as usize + 1;
 
 // The task number of the carried value, as wide as the record's.
 pub const CARRIED: u8 = rules::CARRIED as u8;
@@ -27,7 +23,7 @@ pub struct LiveValue {
 // What is answered, and the values to fill in: the first `count` places are in use, none where it is refused.
 pub struct Lives {
     pub answer: rules::Answer,
-    pub values: [LiveValue; MOST_VALUES],
+    pub values: [LiveValue; rules::MOST_VALUES],
     pub count: usize,
 }
 

@@ -8,18 +8,17 @@ use crate::words::record_in;
 use answers::DONE;
 use answers::number;
 use rules::Answer;
+use rules::MOST_LENT;
 use sections::grid::read_grid;
 use table::read_table;
 ghost use mathlib.Core.Path.{_≡_};
 ghost use Prim.Native.Nat.{_*_, _≤_, min};
 ghost use lib.ListN.{length};
+ghost use Rattle.rules.specs.Table.{mostValues, mostLent};
 ghost use Rattle.rules.specs.Numbers.{told};
-ghost use Rattle.lives.specs.Lives.{liveTold, liveFront, mostLent};
-ghost use Rattle.lives.specs.Values.{mostValues, recordWords, filledFrom, filled, Fills};
+ghost use Rattle.lives.specs.Lives.{liveTold, liveFront};
+ghost use Rattle.lives.specs.Values.{recordWords, filledFrom, filled, Fills};
 ghost use Rattle.lives.specs.Gives.{ListGives, LentGives};
-
-// The most records that a caller without a list of its own is lent.
-pub const MOST_LENT: usize = 600;
 
 // An answer with the list that it filled.
 pub struct Lived {

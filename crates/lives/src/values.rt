@@ -3,7 +3,6 @@ use crate::BLANK;
 use crate::CARRIED;
 use crate::LiveValue;
 use crate::Lives;
-use crate::MOST_VALUES;
 use elements::first_free;
 use events::KIND;
 use events::order_events;
@@ -11,6 +10,7 @@ use rules::Answer;
 use rules::MOST_ELEMENTS;
 use rules::MOST_SIGNALS;
 use rules::MOST_TASKS;
+use rules::MOST_VALUES;
 use rules::Signals;
 use rules::Tasks;
 use signals::until;
@@ -19,11 +19,11 @@ ghost use mathlib.Core.Path.{_≡_};
 ghost use Prim.Native.Nat.{_<_, _≤_};
 ghost use lib.ListN.{length, set, replicate};
 ghost use Rattle.rules.specs.Numbers.{told, tell, allDone};
-ghost use Rattle.rules.specs.Table.{mostSignals};
+ghost use Rattle.rules.specs.Table.{mostSignals, mostValues, mostElements};
 ghost use Rattle.rules.specs.Reading.{tableOf, writesIn};
-ghost use Rattle.elements.specs.Steps.{mostElements, freeIn};
+ghost use Rattle.elements.specs.Steps.{freeIn};
 ghost use Rattle.lives.specs.Lives.{liveValues};
-ghost use Rattle.lives.specs.Values.{mostValues, shown, blank, padded, writesAt, lifeBy, Opening, Asked};
+ghost use Rattle.lives.specs.Values.{shown, blank, padded, writesAt, lifeBy, Opening, Asked};
 
 // Whether the event opens a window of a task that writes the signal.
 fn is_written(grid: &[[u8; MOST_SIGNALS]; MOST_TASKS], signal: usize, event: u32) -> bool

@@ -1,11 +1,12 @@
 // The values as plain numbers, five for each: what the loop over the lent list looks into, so that no turn copies them all.
 use crate::LiveValue;
 use crate::Lives;
-use crate::MOST_VALUES;
+use rules::MOST_VALUES;
 ghost use mathlib.Core.Path.{_≡_};
 ghost use Prim.Native.Nat.{ℕ, _+_, _*_, _<_, _≤_};
 ghost use lib.ListN.{length};
-ghost use Rattle.lives.specs.Values.{mostValues, recordWords, recordIn, valueAt};
+ghost use Rattle.rules.specs.Table.{mostValues};
+ghost use Rattle.lives.specs.Values.{recordWords, recordIn, valueAt};
 
 // The numbers of one record.
 pub const RECORD_WORDS: usize = 5;

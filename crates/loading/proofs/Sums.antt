@@ -4,25 +4,18 @@ use mathlib.Core.Path.{_≡_, refl, ap₂}
 use mathlib.Core.List.{List}
 use native.Mathlib.Omega.{arith}
 use native.Mathlib.Numerals.{add-one}
-use lib.Dec.{eqb, ltb}
+use lib.Dec.{ltb}
 use lib.ListN.{getD}
-use borrow.Author.Tests.{eqb-true, eqb-false, ltb-true, ltb-false}
+use borrow.Author.Tests.{ltb-true, ltb-false}
 use Rattle.rules.specs.Words.{total, times}
 use Rattle.rules.specs.Reading.{Grid}
 use Rattle.theory.proofs.Tests.{split}
+use Rattle.theory.proofs.Sums.{total-upto}
 use Rattle.loading.specs.Lists.{permits, usesOf, countIn, signalUses, usedBefore, baseBefore}
 
 pub total-next : (f : ℕ → ℕ) (n : ℕ) → total f (n + 1) ≡ total f n + f n
 unfolding total
 total-next f n = rw add-one
-
-pub total-up : (f : ℕ → ℕ) (n m : ℕ) → m ≤ n → total f m ≤ total f n
-unfolding total
-total-up f zero m h = let z : m ≡ 0 = omega arith in rw z (omega arith)
-total-up f (suc n) m h =
-    split (eqb m (suc n))
-    (λ q. rw (eqb-true m (suc n) q) (omega arith))
-    (λ q. let z = eqb-false m (suc n) q in omega (arith, total-up f n m (omega arith)))
 
 module _ (grid : Grid) (counts : List ℕ) (kind s : ℕ) where
   pub uses-next : (k : ℕ) → usesOf grid counts kind s (k + 1) ≡ usesOf grid counts kind s k + times (permits grid kind k s) (getD counts k 0)
@@ -31,7 +24,7 @@ module _ (grid : Grid) (counts : List ℕ) (kind s : ℕ) where
 
   pub uses-up : (n k : ℕ) → k ≤ n → usesOf grid counts kind s k ≤ usesOf grid counts kind s n
   unfolding usesOf
-  uses-up n k h = total-up (λ k. times (permits grid kind k s) (getD counts k 0)) n k h
+  uses-up n k h = total-upto (λ k. times (permits grid kind k s) (getD counts k 0)) k n h
 
   pub uses-none : usesOf grid counts kind s 0 ≡ 0
   unfolding usesOf total
@@ -48,7 +41,7 @@ module _ (grid : Grid) (counts schedule : List ℕ) (tasks : ℕ) where
 
   pub used-up : (n s : ℕ) → s ≤ n → usedBefore grid counts tasks s ≤ usedBefore grid counts tasks n
   unfolding usedBefore
-  used-up n s h = total-up (signalUses grid counts tasks) n s h
+  used-up n s h = total-upto (signalUses grid counts tasks) s n h
 
   pub base-none : baseBefore grid counts schedule tasks 0 ≡ 0
   unfolding baseBefore total
@@ -60,7 +53,7 @@ module _ (grid : Grid) (counts schedule : List ℕ) (tasks : ℕ) where
 
   pub base-up : (n s : ℕ) → s ≤ n → baseBefore grid counts schedule tasks s ≤ baseBefore grid counts schedule tasks n
   unfolding baseBefore
-  base-up n s h = total-up (λ r. countIn schedule r (usedBefore grid counts tasks r)) n s h
+  base-up n s h = total-upto (λ r. countIn schedule r (usedBefore grid counts tasks r)) s n h
 
 pub total-below : (f g : ℕ → ℕ) (n : ℕ) → ((k : ℕ) → k < n → f k ≡ g k) → total f n ≡ total g n
 unfolding total
@@ -68,7 +61,7 @@ total-below f g zero e = refl
 total-below f g (suc n) e = ap₂ _+_ (total-below f g n (λ k h. e k (omega arith))) (e n (omega arith))
 
 pub total-has : (f : ℕ → ℕ) (n k : ℕ) → k < n → f k ≤ total f n
-total-has f n k h = omega (arith, total-next f k, total-up f n (k + 1) (omega arith))
+total-has f n k h = omega (arith, total-next f k, total-upto f (k + 1) n (omega arith))
 
 -- what is counted by a sum is counted by one of its terms
 pub total-split : (f : ℕ → ℕ) (n j : ℕ) → j < total f n → (k : ℕ) × (i : ℕ) × (k < n) × (i < f k) × (j ≡ total f k + i)

@@ -5,11 +5,10 @@ use mathlib.Core.List.{List}
 use lib.Dec.{eqb}
 use lib.ListN.{length, getD, set}
 use Rattle.rules.specs.Words.{total, times}
-use Rattle.rules.specs.Table.{mostTasks, mostSignals, mostUses}
+use Rattle.rules.specs.Table.{mostTasks, mostSignals, mostUses, words}
 use Rattle.rules.specs.Reading.{Grid, cellAt, taskOf}
 use Rattle.rules.specs.declared.Tasks.{Tasks}
 use Rattle.rows.specs.Folds.{upTo}
-use Rattle.rows.specs.Fitness.{words}
 
 -- task k has the access of this kind to signal s: 1 to read it, 2 to write it
 abbrev pub permits : Grid → (kind k s : ℕ) → Bool

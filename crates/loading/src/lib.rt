@@ -16,9 +16,8 @@ ghost use mathlib.Core.Path.{_≡_};
 ghost use Prim.Native.Nat.{ℕ, _+_, _*_, _<_, _≤_};
 ghost use lib.ListN.{length, getD, set};
 ghost use Rattle.rules.specs.Words.{times};
-ghost use Rattle.rules.specs.Table.{mostTasks, mostSignals, mostUses};
+ghost use Rattle.rules.specs.Table.{mostTasks, mostSignals, mostUses, words};
 ghost use Rattle.rows.specs.Folds.{upTo};
-ghost use Rattle.rows.specs.Fitness.{words};
 ghost use Rattle.loading.specs.Lists.{permits, usesOf, countIn, elementIn, placeAccess, placeAccesses, placeUses, fillElements, signalUses, usedBefore, baseBefore, writesOf, readsOf, usesIn, carriedIn, storeIn, periodsOf, startsOf, endsOf, countsOf, SignalRoom, Room, Windowed};
 
 // How many uses and elements stand before what is loaded next.

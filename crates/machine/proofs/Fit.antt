@@ -9,9 +9,9 @@ use lib.ListN.{length, getD, set, length-set, List·getD-eq-default}
 use lib.Seq.{getD-set-same, getD-set-other}
 use borrow.Author.Tests.{ltb-true, ltb-false, lt-ltb, le-leb, eqb-true, eqb-false}
 use Rattle.rules.specs.Words.{when}
-use Rattle.rules.specs.Table.{mostTasks, mostSignals, mostUses, longest}
+use Rattle.rules.specs.Table.{mostTasks, mostSignals, mostUses, words, longest}
 use Rattle.rules.specs.declared.Answer.{Answer}
-use Rattle.rows.specs.Fitness.{none, words, within, firstOf, positionsFit, fitParts}
+use Rattle.rows.specs.Fitness.{none, within, firstOf, positionsFit, fitParts}
 use Rattle.rows.specs.Rows.{useOf, publishOne, publications, atInstance, closingOf, save}
 use Rattle.rows.specs.declared.Instance.{Instance}
 use Rattle.rows.specs.declared.Place.{Place}

@@ -13,7 +13,7 @@ use borrow.Author.Tests.{ltb-false, lt-ltb, le-ltb, lt-leb, le-leb, eq-eqb, ne-e
 use Rattle.rules.specs.Words.{when, highest, maybe}
 use Rattle.rules.specs.Windows.{Table, opens, closes, instance, isOpen, hyper, instances}
 use Rattle.rules.specs.Values.{carried, by, publisher, opensAt, IsValue}
-use Rattle.rules.specs.Table.{Fits, mostTasks, mostSignals, mostUses}
+use Rattle.rules.specs.Table.{words, Fits, mostTasks, mostSignals, mostUses}
 use Rattle.rules.specs.Schedule.{Schedule, place, Passes}
 use Rattle.rules.specs.Machine.{State, stores}
 use Rattle.rules.specs.Machine as rules
@@ -23,7 +23,7 @@ use Rattle.theory.proofs.Time.{instance-lt}
 use Rattle.theory.proofs.Joins.{open-mod, opens-mod, closes-mod}
 use Rattle.theory.proofs.Stores.{place-lt, place-signal}
 use Rattle.rows.specs.Folds.{upTo}
-use Rattle.rows.specs.Fitness.{words, firstOf}
+use Rattle.rows.specs.Fitness.{firstOf}
 use Rattle.rows.specs.Fitness as fitness
 use Rattle.rows.specs.Rows.{phaseOf, instanceIf, openingOf, closingOf, insideOf, load, save, useOf, publishOne, openOne, carryOne, atInstance, publications, openings, copies}
 use Rattle.rows.specs.declared.Instance.{Instance}

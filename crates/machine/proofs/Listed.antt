@@ -10,7 +10,7 @@ use lib.ListN.{length, getD, set, replicate, length-replicate, getD-replicate, L
 use borrow.Author.Tests.{ltb-true, ltb-false, leb-true, lt-ltb, le-ltb, le-leb, lt-leb, eq-eqb, ne-eqb, eqb-true, eqb-false}
 use Rattle.rules.specs.Words.{total, times}
 use Rattle.rules.specs.Windows.{Table, instances}
-use Rattle.rules.specs.Table.{mostTasks, mostSignals, mostUses, uses}
+use Rattle.rules.specs.Table.{mostTasks, mostSignals, mostUses, words, uses}
 use Rattle.rules.specs.Schedule.{Schedule, base}
 use Rattle.rules.specs.Bytes.{writersBelow, readersBelow, sizeOf, startOf, scheduleIn}
 use Rattle.rules.specs.Reading.{Grid, cellAt, taskOf, writesIn, readsIn}
@@ -21,7 +21,7 @@ use Rattle.theory.proofs.Tests.{split, both, and-is, not-both}
 use Rattle.theory.proofs.Sums.{sizes, uses-all, length-is}
 use Rattle.theory.proofs.Stores.{stores-length, stores-other, stores-same}
 use Rattle.rows.specs.Folds.{upTo}
-use Rattle.rows.specs.Fitness.{none, words, firstOf}
+use Rattle.rows.specs.Fitness.{none, firstOf}
 use Rattle.rows.specs.Rows.{openings}
 use Rattle.rows.proofs.Folds.{acted-idle, acted-once, acted-seen}
 use Rattle.loading.specs.Lists.{permits, usesOf, countIn, elementIn, placeAccess, placeAccesses, placeUses, fillElements, signalUses, usedBefore, baseBefore, writesOf, readsOf, usesIn, carriedIn, storeIn, periodsOf, startsOf, endsOf, countsOf, Room, Windowed}
@@ -65,20 +65,7 @@ module _ (g : Given) where
   used s = usedBefore (g .grid) (counted g) (g .tasks .count) s
 
 module _ (g : Given) (C : Checked g) where
-  abbrev tasks : Tasks
-  tasks = g .tasks
-
-  abbrev signals : Signals
-  signals = g .signals
-
-  abbrev grid : Grid
-  grid = g .grid
-
-  abbrev hyper : ℕ
-  hyper = g .hyper
-
-  abbrev schedule : List ℕ
-  schedule = g .schedule
+  open Given g using (tasks, signals, grid, hyper, schedule)
 
   abbrev T : Table
   T = tab g

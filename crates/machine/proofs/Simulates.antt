@@ -11,7 +11,7 @@ use borrow.Author.Tests.{ltb-true, lt-leb, leb-false}
 use Rattle.rules.specs.Words.{when}
 use Rattle.rules.specs.Windows.{Table, instance, isOpen, hyper}
 use Rattle.rules.specs.Values.{carried, by}
-use Rattle.rules.specs.Table.{Fits, mostTasks, mostSignals}
+use Rattle.rules.specs.Table.{words, Fits, mostTasks, mostSignals}
 use Rattle.rules.specs.Schedule.{Schedule, base, place, Passes}
 use Rattle.rules.specs.Numbers.{noAccess}
 use Rattle.rules.specs.Meaning.{step, read, write, judged}
@@ -22,7 +22,6 @@ use Rattle.theory.proofs.Time.{instance-lt}
 use Rattle.theory.proofs.Hyper.{hyper-pos}
 use Rattle.theory.proofs.Stores.{getD-each}
 use Rattle.theory.proofs.Kept.{openings-length}
-use Rattle.rows.specs.Fitness.{words}
 use Rattle.rows.specs.Rows.{save, placeOf}
 use Rattle.rows.specs.declared.Place.{Place}
 use Rattle.machine.specs.declared.Machine.{Machine}

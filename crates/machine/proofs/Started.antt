@@ -10,7 +10,7 @@ use borrow.Author.Tests.{ltb-true, ltb-false, lt-ltb, le-leb, ne-eqb}
 use Rattle.rules.specs.Words.{total, times}
 use Rattle.rules.specs.Windows.{Table, instances, opens, hyper}
 use Rattle.rules.specs.Values.{carried, by, bound}
-use Rattle.rules.specs.Table.{Fits, mostTasks, mostSignals, mostUses, longest}
+use Rattle.rules.specs.Table.{words, Fits, mostTasks, mostSignals, mostUses, longest}
 use Rattle.rules.specs.Schedule.{Schedule, base, place, Passes}
 use Rattle.rules.specs.Answers.{checkSays}
 use Rattle.rules.specs.Reading.{Grid, taskOf, writesIn}
@@ -28,7 +28,7 @@ use Rattle.theory.proofs.Checked.{check-sound}
 use Rattle.theory.proofs.Stores.{getD-each, place-lt, filled-length}
 use Rattle.theory.proofs.Kept.{openings-length}
 use Rattle.rows.specs.Folds.{upTo}
-use Rattle.rows.specs.Fitness.{none, words, within, firstOf, positionsFit, rowFits, gridFits, fitParts}
+use Rattle.rows.specs.Fitness.{none, within, firstOf, positionsFit, rowFits, gridFits, fitParts}
 use Rattle.rows.specs.Rows.{useOf}
 use Rattle.rows.proofs.Folds.{acted-keeps}
 use Rattle.loading.specs.Lists.{permits, usesOf, elementIn, placeAccesses, placeUses, signalUses, baseBefore, writesOf, readsOf, usesIn, carriedIn}
@@ -52,17 +52,7 @@ pub record Kind (g : Given) (kind : ℕ) (first : ℕ → ℕ) (allowed : ℕ �
   pub elements : (s k i : ℕ) → k < g .tasks .count → elementIn (g .schedule) s (first s + usesOf (g .grid) (counted g) kind s k + i) ≡ element s k i
 
 module _ (g : Given) (C : Checked g) where
-  abbrev tasks : Tasks
-  tasks = g .tasks
-
-  abbrev signals : Signals
-  signals = g .signals
-
-  abbrev grid : Grid
-  grid = g .grid
-
-  abbrev schedule : List ℕ
-  schedule = g .schedule
+  open Given g using (tasks, signals, grid, schedule)
 
   abbrev T : Table
   T = tab g

@@ -5,9 +5,9 @@ use mathlib.Core.List.{List}
 use lib.Dec.{ltb}
 use lib.ListN.{replicate}
 use Rattle.rules.specs.Words.{when}
-use Rattle.rules.specs.Table.{mostTasks, mostSignals, mostUses}
+use Rattle.rules.specs.Table.{mostTasks, mostSignals, mostUses, words}
 use Rattle.rules.specs.declared.Answer.{Answer}
-use Rattle.rows.specs.Fitness.{none, words, fitParts}
+use Rattle.rows.specs.Fitness.{none, fitParts}
 use Rattle.rows.specs.Rows.{load, save, publications, openings, copies, placeOf}
 use Rattle.rows.specs.declared.Place.{Place}
 use Rattle.machine.specs.declared.Machine.{Machine}

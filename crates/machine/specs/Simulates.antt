@@ -7,12 +7,12 @@ use lib.Dec.{ltb, eqb}
 use lib.ListN.{length, getD}
 use Rattle.rules.specs.Windows.{Table, hyper, instances}
 use Rattle.rules.specs.Values.{carried, by}
-use Rattle.rules.specs.Table.{Fits, mostTasks, mostSignals}
+use Rattle.rules.specs.Table.{words, Fits, mostTasks, mostSignals}
 use Rattle.rules.specs.Schedule.{Schedule, base, place, Passes}
 use Rattle.rules.specs.Numbers.{Told, tell, told}
 use Rattle.rules.specs.Meaning.{Call, step, read, write, Outcome, done, word, refused}
 use Rattle.rules.specs.Machine.{State, answer, after, answers}
-use Rattle.rows.specs.Fitness.{none, words, firstOf}
+use Rattle.rows.specs.Fitness.{none, firstOf}
 use Rattle.rows.specs.Rows.{useOf}
 use Rattle.machine.specs.declared.Machine.{Machine}
 use Rattle.machine.specs.Calls.{fit, stepOf, readOf, writeOf}

@@ -5,7 +5,7 @@ use mathlib.Core.Bool.{true}
 use mathlib.Core.List.{List, [], map}
 use lib.ListN.{length, replicate}
 use Rattle.rules.specs.Windows.{Table, hyper}
-use Rattle.rules.specs.Table.{Fits, mostTasks, mostSignals, mostUses}
+use Rattle.rules.specs.Table.{words, Fits, mostTasks, mostSignals, mostUses}
 use Rattle.rules.specs.Schedule.{Schedule, base}
 use Rattle.rules.specs.Bytes.{scheduleIn, scheduleLength}
 use Rattle.rules.specs.Reading.{Grid, tableOf}
@@ -15,7 +15,7 @@ use Rattle.rules.specs.Machine.{loaded}
 use Rattle.rules.specs.declared.Tasks.{Tasks}
 use Rattle.rules.specs.declared.Signals.{Signals}
 use Rattle.rows.specs.Folds.{upTo}
-use Rattle.rows.specs.Fitness.{none, words}
+use Rattle.rows.specs.Fitness.{none}
 use Rattle.loading.specs.Lists.{periodsOf, startsOf, endsOf, countsOf, writesOf, readsOf, usesIn, carriedIn, storeIn}
 use Rattle.machine.specs.declared.Machine.{Machine}
 use Rattle.machine.specs.Calls.{at, opened}

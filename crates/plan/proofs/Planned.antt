@@ -20,8 +20,8 @@ use Rattle.rules.specs.Answers.{planSays}
 use Rattle.rules.specs.Reading.{Grid, tableOf, noGrid}
 use Rattle.rules.specs.declared.Tasks.{Tasks}
 use Rattle.rules.specs.declared.Signals.{Signals}
-use Rattle.theory.specs.Sweep.{events}
-use Rattle.theory.specs.Chosen.{firstUse, useOf, IsUse, Choice, choose, chosen}
+use Rattle.theory.specs.Sweep.{events, acted}
+use Rattle.theory.specs.Chosen.{firstUse, useOf, IsUse, Choice, chosen}
 use Rattle.theory.proofs.Tests.{split, past, here}
 use Rattle.theory.proofs.Lists.{All}
 use Rattle.theory.proofs.Checked.{Of, parts-of}
@@ -54,7 +54,7 @@ module _ (tasks : Tasks) (S : Signals) (grid : Grid) where
   same-first s = refl
 
   same-chosen : (s : ℕ) (uses : List ℕ) → chosen (passTable tasks grid) s uses ≡ chosen tab s uses
-  unfolding chosen choose firstUse writersBelow readersBelow hyper events
+  unfolding chosen acted firstUse writersBelow readersBelow hyper events
   same-chosen s uses = refl
 
   number-is : (x : Part) → numberOf tab x ≡ useOf tab x

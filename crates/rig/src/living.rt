@@ -4,17 +4,15 @@ use crate::tell::bad_line;
 use crate::tell::end_of_answer;
 use crate::tell::put_answer;
 use crate::tell::put_part;
-use console::command::MOST_RECORDS;
 use console::page::front;
 use console::words::SPACE;
 use lives::LiveValue;
 use lives::lent;
+use rules::MOST_LENT;
 ghost use Prim.Native.Nat.{_≤_};
-ghost use Rattle.lives.specs.Lives.{mostLent};
+ghost use Rattle.rules.specs.Table.{mostLent};
 
 const DOT: u8 = b'.';
-
-const MOST_LENT: usize = MOST_RECORDS as usize;
 
 // What each record of the lent list is beforehand.
 const UNTOUCHED: LiveValue = LiveValue {

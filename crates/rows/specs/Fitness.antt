@@ -5,15 +5,11 @@ use mathlib.Core.List.{List}
 use lib.Dec.{leb, ltb, eqb}
 use lib.ListN.{length, getD}
 use Rattle.rules.specs.Words.{every}
-use Rattle.rules.specs.Table.{mostTasks, mostSignals, mostUses, longest}
+use Rattle.rules.specs.Table.{mostTasks, mostSignals, mostUses, words, longest}
 
 -- points nowhere: past every list
 abbrev pub none : ℕ
 none = 65535
-
--- the words of the store
-abbrev pub words : ℕ
-words = 256
 
 -- none, or at most the limit
 abbrev pub within : ℕ → ℕ → Bool

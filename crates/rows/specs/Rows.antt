@@ -6,9 +6,9 @@ use mathlib.Core.List.{List}
 use lib.Dec.{leb, ltb, eqb}
 use lib.ListN.{getD, set}
 use Rattle.rules.specs.Words.{when}
-use Rattle.rules.specs.Table.{mostTasks, mostSignals, mostUses}
+use Rattle.rules.specs.Table.{mostTasks, mostSignals, mostUses, words}
 use Rattle.rows.specs.Folds.{upTo}
-use Rattle.rows.specs.Fitness.{none, words, firstOf}
+use Rattle.rows.specs.Fitness.{none, firstOf}
 use Rattle.rows.specs.declared.Instance.{Instance}
 use Rattle.rows.specs.declared.Place.{Place}
 

@@ -1,11 +1,11 @@
 // What the machine does with its lists: fitness, a task's instance at a tick, and the words of one signal, of a task's row, of all tasks.
+use fields::both;
 use rules::LONGEST;
 use rules::MOST_SIGNALS;
 use rules::MOST_TASKS;
 use rules::MOST_USES;
 use rules::WORDS;
 ghost use mathlib.Core.Path.{_≡_};
-ghost use mathlib.Core.Bool.{_&&_};
 ghost use Prim.Native.Nat.{_<_};
 ghost use Rattle.rules.specs.Table.{mostTasks, mostSignals};
 ghost use Rattle.rows.specs.Folds.{upTo};
@@ -42,13 +42,6 @@ fn wide(x: u16) -> usize
     x as usize
 }
 
-// Both parts are computed: no branch in the loops below.
-fn and(a: bool, b: bool) -> bool
-    ensures { λ r. ⌜ r ≡ (a && b) ⌝ }
-{
-    if a { b } else { false }
-}
-
 // Fitness.
 
 fn is_within(limit: u16, p: u16) -> bool
@@ -62,7 +55,7 @@ fn positions_fit(positions: &[u16]) -> bool
 {
     let mut ok = true;
     for k in 0..positions.len() {
-        ok = and(is_within(LAST_WORD, positions[k]), ok);
+        ok = both(is_within(LAST_WORD, positions[k]), ok);
     }
     ok
 }
@@ -77,7 +70,7 @@ fn row_fits(firsts: &[u16; CELLS], task: usize, count: u32) -> bool
     let limit = (MOST_COUNT - count) as u16;
     let mut ok = true;
     for s in 0..MOST_SIGNALS {
-        ok = and(is_within(limit, firsts[task * MOST_SIGNALS + s]), ok);
+        ok = both(is_within(limit, firsts[task * MOST_SIGNALS + s]), ok);
     }
     ok
 }
@@ -87,7 +80,7 @@ fn grid_fits<'a>(firsts: &'a [u16; CELLS], counts: &'a [u32; MOST_TASKS]) -> boo
 {
     let mut ok = true;
     for t in 0..MOST_TASKS {
-        ok = and(row_fits(firsts, t, counts[t]), ok);
+        ok = both(row_fits(firsts, t, counts[t]), ok);
     }
     ok
 }
@@ -95,7 +88,10 @@ fn grid_fits<'a>(firsts: &'a [u16; CELLS], counts: &'a [u32; MOST_TASKS]) -> boo
 fn is_running(loaded: bool, hyper: u32, tick: u32) -> bool
     ensures { λ r. ⌜ r ≡ running loaded hyper tick ⌝ }
 {
-    and(and(and(loaded, 1 <= hyper), hyper <= LONGEST), tick < hyper)
+    both(
+        both(both(loaded, 1 <= hyper), hyper <= LONGEST),
+        tick < hyper,
+    )
 }
 
 pub fn is_fit<'a>(
@@ -111,12 +107,12 @@ pub fn is_fit<'a>(
 ) -> bool
     ensures { λ r. ⌜ r ≡ fitParts loaded hyper tick (now (counts .entry)) (now (reads .entry)) (now (writes .entry)) (now (uses .entry)) (now (carried .entry)) (now (held .entry)) ⌝ }
 {
-    let accesses = and(grid_fits(reads, counts), grid_fits(writes, counts));
-    let positions = and(
-        and(positions_fit(uses), positions_fit(carried)),
+    let accesses = both(grid_fits(reads, counts), grid_fits(writes, counts));
+    let positions = both(
+        both(positions_fit(uses), positions_fit(carried)),
         positions_fit(held),
     );
-    and(is_running(loaded, hyper, tick), and(accesses, positions))
+    both(is_running(loaded, hyper, tick), both(accesses, positions))
 }
 
 // A task's instance at a tick.
@@ -160,7 +156,7 @@ fn inside(period: u32, start: u32, end: u32, count: u32, tick: u32) -> Instance
     ensures { λ r. ⌜ r ≡ insideOf period start end count tick ⌝ }
 {
     let p = phase(period, tick);
-    instance_if(and(start <= p, p < end), period, count, tick)
+    instance_if(both(start <= p, p < end), period, count, tick)
 }
 
 // A word of the store. None is past its end: nothing is stored there, and 0 is found.

@@ -1,5 +1,4 @@
 // A schedule written from its counts and elements, record by record at the front of a lent buffer.
-use form::LOW_AT;
 use form::Side;
 use form::instances_of;
 use form::mark_of;
@@ -10,6 +9,7 @@ use rules::COUNT_AT;
 use rules::ELEMENT_AT;
 use rules::EN;
 use rules::INSTANCE_AT;
+use rules::LOW_AT;
 use rules::MOST_SIGNALS;
 use rules::MOST_TASKS;
 use rules::MOST_USES;

@@ -14,7 +14,7 @@ use Rattle.rules.specs.Bytes.{writersBelow, readersBelow, sizeOf, startOf, sche
 use Rattle.rules.specs.Reading.{Grid, tableOf}
 use Rattle.rules.specs.declared.Tasks.{Tasks}
 use Rattle.rules.specs.declared.Signals.{Signals}
-use Rattle.theory.specs.Sweep.{events, handled, sweep, Counted}
+use Rattle.theory.specs.Sweep.{events, acted, sweep, Counted}
 use Rattle.theory.proofs.Check.{every-at, every-is}
 use Rattle.theory.proofs.Sums.{length-is}
 use Rattle.theory.proofs.Swept.{sweeps-exact}
@@ -32,7 +32,7 @@ module _ (tasks : Tasks) (signals : Signals) (grid : Grid) (bytes : List ℕ) wh
   schedule-alone = refl
 
   sweep-alone : (E : Schedule) (s : ℕ) → sweep (gridTable tasks grid) E s ≡ sweep tab E s
-  unfolding hyper events handled sweep
+  unfolding hyper events acted sweep
   sweep-alone E s = refl
 
   pub accepts : Fits tab → Counted tab (scheduleIn tab bytes) → (allSwept tasks grid bytes (tab .signals) ≡ true) ↔ Passes tab (scheduleIn tab bytes)

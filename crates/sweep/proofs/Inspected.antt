@@ -14,12 +14,12 @@ use lib.Seq.{drop-cons, drop-length, getD-set-same, getD-set-other}
 use borrow.Author.Tests.{eqb-true, eqb-false}
 use Rattle.rules.specs.Words.{total, times}
 use Rattle.rules.specs.Windows.{Table, opens, closes, instance, instances, hyper}
-use Rattle.rules.specs.Table.{mostTasks}
+use Rattle.rules.specs.Table.{mostTasks, mostElements}
 use Rattle.rules.specs.Schedule.{Schedule}
 use Rattle.rules.specs.Bytes.{wi, ri, writersBelow, readersBelow, sizeOf, startOf, scheduleIn}
 use Rattle.rules.specs.Reading.{Grid, cellAt, taskOf, noSignals, writesIn, readsIn}
 use Rattle.rules.specs.declared.Tasks.{Tasks}
-use Rattle.theory.specs.Sweep.{Pass, taskIn, tickIn, isOpening, opened, closed, handled, events, through, never, noneHeld, sweep}
+use Rattle.theory.specs.Sweep.{Pass, taskIn, tickIn, isOpening, opened, closed, acted, readerOpens, writerOpens, writerCloses, handled, events, through, never, noneHeld, sweep}
 use Rattle.theory.proofs.Tests.{split, holds, not-both}
 use Rattle.theory.proofs.Time.{instance-is, instance-lt, closes-le}
 use Rattle.theory.proofs.Swept.{opening-digits, closing-digits}
@@ -27,7 +27,7 @@ use Rattle.theory.proofs.Lists.{all-at}
 use Rattle.theory.proofs.Events.{IsEvent, events-all, events-up, few-events}
 use Rattle.events.specs.Order.{tasksTable, mostEvents}
 use Rattle.events.proofs.Alone.{events-alone}
-use Rattle.sweep.specs.Pass.{gridTable, passOf, mayRead, mayWrite, mostElements, elementAt, Inside, Writes, readOf, wroteOf, closedOf, handledOf, Handles, Inspects, AreActs}
+use Rattle.sweep.specs.Pass.{gridTable, passOf, mayRead, mayWrite, elementAt, Inside, Writes, readOf, wroteOf, closedOf, handledOf, Handles, Inspects, AreActs}
 use Rattle.sweep.specs.declared.Places.{Places}
 use Rattle.sweep.specs.declared.Standing.{Standing}
 use Rattle.sweep.specs.declared.Turn.{Turn}
@@ -159,20 +159,20 @@ module _ (tasks : Tasks) (grid : Grid) (s : ℕ) (list : List ℕ) (count : ℕ)
           let z = instance-is tab (I .given .fits) k i t h (omega (arith, I .given .fits .window k h)) (omega arith) in
           (t, refl, rw z q, omega (arith, closes-le tab (I .given .fits) k i h l))
 
-  opening-is : (k t : ℕ) (p : Pass) → k < tab .tasks → opens tab k (instance tab k t) ≡ t → wroteOf bytes (readOf bytes p (turn k t)) (turn k t) ≡ opened tab E s p k t
+  opening-is : (k t : ℕ) (p : Pass) → k < tab .tasks → opens tab k (instance tab k t) ≡ t → wroteOf bytes (readOf bytes p (turn k t)) (turn k t) ≡ opened tab s (readerOpens tab E s) (writerOpens tab E s) p k t
   unfolding readOf wroteOf scheduleIn writesIn readsIn
   opening-is k t p h o =
       let c : t - tab .start k + tab .end k ≡ closes tab k (instance tab k t) = omega arith in
       rw (I .placed .readers k h, I .placed .writers k h, ← reader-step tab s k (instance tab k t), ← writer-step tab s k (instance tab k t), c)
 
-  closing-is : (k t : ℕ) (p : Pass) → k < tab .tasks → closedOf bytes p (turn k (suc t)) ≡ closed tab E s p k t
+  closing-is : (k t : ℕ) (p : Pass) → k < tab .tasks → closedOf bytes p (turn k (suc t)) ≡ closed tab s (writerCloses tab E s) p k t
   unfolding closedOf scheduleIn writesIn
   closing-is k t p h =
       let e : suc t - 1 ≡ t = omega arith in
       rw (e, I .placed .writers k h, ← writer-step tab s k (instance tab k t))
 
   pub handled-is : (n : ℕ) (p : Pass) → IsEvent tab n → handledOf bytes n p (turnAt n) ≡ handled tab E s p n
-  unfolding handled handledOf
+  unfolding acted handledOf
   handled-is n p x =
       let K = known n x in
       rw (turn-is n)

@@ -7,7 +7,7 @@ use lib.Dec.{T, eqb}
 use lib.ListN.{length, getD}
 use Rattle.rules.specs.Words.{total, times, every}
 use Rattle.rules.specs.Windows.{Table, instances, hyper}
-use Rattle.rules.specs.Table.{mostTasks, mostSignals, longest, Fits}
+use Rattle.rules.specs.Table.{mostTasks, mostSignals, mostElements, longest, Fits}
 use Rattle.rules.specs.Bytes.{wi, ri, sizeOf, startOf, scheduleIn}
 use Rattle.rules.specs.Reading.{Grid, tableOf, noSignals, cellAt, writesIn}
 use Rattle.rules.specs.declared.Tasks.{Tasks}
@@ -30,9 +30,6 @@ mayRead cell = eqb (cell % 2) 1
 
 abbrev pub mayWrite : ℕ → Bool
 mayWrite cell = eqb (cell / 2 % 2) 1
-
-abbrev pub mostElements : ℕ
-mostElements = 32
 
 -- the element of instance i, where that of instance 0 is at `first`: records have 7 bytes
 abbrev pub elementAt : List ℕ → ℕ → ℕ → ℕ

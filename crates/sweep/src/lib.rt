@@ -2,6 +2,8 @@
 use events::KIND;
 use events::MOST_EVENTS;
 use events::TICK;
+use fields::both;
+use fields::larger;
 use fields::wide;
 use rules::BF_BYTES;
 use rules::CARRIED_ELEMENT;
@@ -15,13 +17,12 @@ use rules::Task;
 use rules::Tasks;
 use rules::USE_BYTES;
 use rules::WRITE;
-ghost use Prim.Native.Nat.{suc, _*_, _-_, _<_, _≤_, max};
-ghost use mathlib.Core.Bool.{_&&_};
+ghost use Prim.Native.Nat.{suc, _*_, _-_, _<_, _≤_};
 ghost use mathlib.Core.Path.{_≡_};
-ghost use Rattle.sweep.specs.Pass.{mostElements, passOf, elementAt, Inside, TurnFits, Reads, IsRead, Writes, wroteOf, closedOf, Handles, handledOf, gridTable, Inspects, recordsOf, farthest, longestBytes, IsRow, ArePlaces, InspectsAll, allSwept, AreActs};
+ghost use Rattle.sweep.specs.Pass.{passOf, elementAt, Inside, TurnFits, Reads, IsRead, Writes, wroteOf, closedOf, Handles, handledOf, gridTable, Inspects, recordsOf, farthest, longestBytes, IsRow, ArePlaces, InspectsAll, allSwept, AreActs};
 ghost use Rattle.rules.specs.Words.{total};
 ghost use Rattle.rules.specs.Windows.{hyper};
-ghost use Rattle.rules.specs.Table.{Fits, mostTasks, mostSignals};
+ghost use Rattle.rules.specs.Table.{mostTasks, mostSignals, mostElements, Fits};
 ghost use Rattle.rules.specs.Bytes.{sizeOf, scheduleIn};
 ghost use Rattle.theory.specs.Sweep.{sweep};
 
@@ -61,18 +62,6 @@ pub struct Turn {
     pub task: Task,
     pub readers: usize,
     pub writers: usize,
-}
-
-fn larger(a: u32, b: u32) -> u32
-    ensures { λ r. ⌜ r ≡ max a b ⌝ }
-{
-    if a < b { b } else { a }
-}
-
-fn both(a: bool, b: bool) -> bool
-    ensures { λ r. ⌜ r ≡ (a && b) ⌝ }
-{
-    if a { b } else { false }
 }
 
 // The element of instance i.

@@ -8,7 +8,7 @@ use Rattle.rules.specs.Words.{gather}
 use Rattle.rules.specs.Euclid.{gcdIn, gcdOf, lcmOf}
 use Rattle.rules.specs.Windows.{Table, lcmAll, hyper}
 use Rattle.rules.specs.Cases.{A, D, table, writer, reader}
-use Rattle.theory.specs.Sweep.{events, through, handled, sweep}
+use Rattle.theory.specs.Sweep.{events, through, acted, sweep}
 
 -- a table, the elements of its writer and of its reader instances of signal 0, and whether they pass
 pub record Sent : Type 0 where
@@ -43,7 +43,7 @@ sents =
     ∷ []
 
 pub as-swept : map found sents ≡ map (λ (x : Sent). x .right) sents
-unfolding gather gcdIn gcdOf lcmOf lcmAll hyper events through handled sweep
+unfolding gather gcdIn gcdOf lcmOf lcmAll hyper events through acted sweep
 as-swept = refl
 
 -- A: both open at 0, task 0 closes at 4, task 1 closes and opens at 5 and closes at 10

@@ -1,5 +1,5 @@
 -- The pass that takes at each opening the lowest element that is free then takes the elements of the plan. Assumes nothing.
-use mathlib.Core.Bool.{true, false≢true}
+use mathlib.Core.Bool.{Bool, true, false≢true}
 use mathlib.Core.List.{List, []}
 use mathlib.Core.Logic.{_⊎_, inl, inr, ⊎-elim}
 use mathlib.Core.Path.{_≡_, refl, sym, ap, subst, _∙_}
@@ -18,8 +18,8 @@ use Rattle.rules.specs.Schedule.{Schedule, most, elementOf}
 use Rattle.rules.specs.Plan.{busy, valuesOf, livesOf, plan}
 use Rattle.rules.specs.Bytes.{Part, bf, wi, ri, free, writersBelow, readersBelow}
 use Rattle.theory.specs.Promises.{valueOf}
-use Rattle.theory.specs.Sweep.{closingNumber, openingNumber, Pass, never, readerOpens, writerOpens, writerCloses}
-use Rattle.theory.specs.Chosen.{usesOf, firstUse, useOf, IsUse, Choice, freeElement, taken, reads, takes, publishes, opened, closed, choose, unchosen, chosen, ChoosesPlan, PlanChosen}
+use Rattle.theory.specs.Sweep.{Pass, never, readerOpens, writerOpens, writerCloses}
+use Rattle.theory.specs.Chosen.{usesOf, firstUse, useOf, IsUse, Choice, freeElement, taken, reads, takes, publishes, unchosen, chosen, ChoosesPlan, PlanChosen}
 use Rattle.theory.proofs.Tests.{split, is, holds}
 use Rattle.theory.proofs.Time.{instance-is, instance-lt, closes-le, publisher-some}
 use Rattle.theory.proofs.Numbered.{elementAt}
@@ -28,61 +28,40 @@ use Rattle.theory.proofs.Order.{value-of, value-in, lives-length, life-
 use Rattle.theory.proofs.Apart.{after-lower}
 use Rattle.theory.proofs.Planned.{starts, numbered, plan-count, below, apart, binds}
 use Rattle.theory.proofs.Seats.{plan-most}
-use Rattle.theory.proofs.Sums.{uses-all}
+use Rattle.theory.proofs.Sums.{total-upto, block-lt, block-one, uses-all}
 use Rattle.theory.proofs.Untils.{first-lowest}
 use Rattle.theory.proofs.Bound.{bound-signal, bound-value}
 use Rattle.theory.proofs.Sweep.{Opened, Begun, Before, opened-each, opened-next, begun-le, begun-cases, begun-next, opens-instance, Kept, no-reader, reader-opens, no-writer, writer-opens, nothing-closes, writer-closes, at-start}
-use Rattle.theory.proofs.Swept.{opening-digits, closing-digits, Steps, passed, apart-free}
+use Rattle.theory.proofs.Swept.{Steps, passed, apart-free}
 
 -- ---- uses in blocks one after the other
 
-total-upto : (f : ℕ → ℕ) (m n : ℕ) → m ≤ n → total f m ≤ total f n
-unfolding total
-total-upto f m zero h = let e : m ≡ 0 = omega arith in rw e (omega arith)
-total-upto f m (suc n) h =
-    split (eqb m (suc n))
-    (λ q. rw (eqb-true m (suc n) q) (omega arith))
-    (λ q. let z = eqb-false m (suc n) q in omega (arith, total-upto f m n (omega arith)))
-
-block-lt : (f : ℕ → ℕ) (j i n : ℕ) → j < n → i < f j → total f j + i < total f n
-unfolding total
-block-lt f j i n h l = let z : total f (suc j) ≡ total f j + f j = refl in omega (arith, total-upto f (suc j) n h)
-
-block-one : (f : ℕ → ℕ) (j i k m : ℕ) → i < f j → m < f k → total f j + i ≡ total f k + m → (j ≡ k) × (i ≡ m)
-block-one f j i k m a b e =
-    let c : ¬ (j < k) = λ l. let z : ⊥ = omega (arith, block-lt f j i k l a) in z in
-    let d : ¬ (k < j) = λ l. let z : ⊥ = omega (arith, block-lt f k m j l b) in z in
-    let z : j ≡ k = omega arith in
-    (z, omega (arith, ap (total f) z))
+part-is : (part : ℕ → ℕ → ℕ → Part) (r q j k i m : ℕ) → r ≡ q → j ≡ k → i ≡ m → part r j i ≡ part q k m
+part-is part r q j k i m a b c = ap (λ r. part r j i) a ∙ ap (λ j. part q j i) b ∙ ap (part q k) c
 
 module _ (tab : Table) where
-  abbrev writersOf : ℕ → ℕ → ℕ
-  writersOf s k = times (tab .writes s k) (instances tab k)
+  -- the instances of task k, if it may
+  abbrev usersOf : (ℕ → Bool) → ℕ → ℕ
+  usersOf may k = times (may k) (instances tab k)
 
-  abbrev readersOf : ℕ → ℕ → ℕ
-  readersOf s k = times (tab .reads s k) (instances tab k)
-
-  writes-block : (s k i : ℕ) → T (tab .writes s k) → i < instances tab k → i < writersOf s k
-  writes-block s k i w h = rw (is (tab .writes s k) w) h
-
-  reads-block : (s k i : ℕ) → T (tab .reads s k) → i < instances tab k → i < readersOf s k
-  reads-block s k i w h = rw (is (tab .reads s k) w) h
+  in-block : (may : ℕ → Bool) (k i : ℕ) → T (may k) → i < instances tab k → i < usersOf may k
+  in-block may k i w h = rw (is (may k) w) h
 
   pub writer-lt : (s k i : ℕ) → k < tab .tasks → T (tab .writes s k) → i < instances tab k → writersBelow tab s k + i < writersBelow tab s (tab .tasks)
   unfolding writersBelow
-  writer-lt s k i m w h = block-lt (writersOf s) k i (tab .tasks) m (writes-block s k i w h)
+  writer-lt s k i m w h = block-lt (usersOf (tab .writes s)) k i (tab .tasks) m (in-block (tab .writes s) k i w h)
 
   pub reader-lt : (s k i : ℕ) → k < tab .tasks → T (tab .reads s k) → i < instances tab k → readersBelow tab s k + i < readersBelow tab s (tab .tasks)
   unfolding readersBelow
-  reader-lt s k i m w h = block-lt (readersOf s) k i (tab .tasks) m (reads-block s k i w h)
+  reader-lt s k i m w h = block-lt (usersOf (tab .reads s)) k i (tab .tasks) m (in-block (tab .reads s) k i w h)
 
   writer-one : (s j i k m : ℕ) → T (tab .writes s j) → i < instances tab j → T (tab .writes s k) → m < instances tab k → writersBelow tab s j + i ≡ writersBelow tab s k + m → (j ≡ k) × (i ≡ m)
   unfolding writersBelow
-  writer-one s j i k m a b c d e = block-one (writersOf s) j i k m (writes-block s j i a b) (writes-block s k m c d) e
+  writer-one s j i k m a b c d e = block-one (usersOf (tab .writes s)) j i k m (in-block (tab .writes s) j i a b) (in-block (tab .writes s) k m c d) e
 
   reader-one : (s j i k m : ℕ) → T (tab .reads s j) → i < instances tab j → T (tab .reads s k) → m < instances tab k → readersBelow tab s j + i ≡ readersBelow tab s k + m → (j ≡ k) × (i ≡ m)
   unfolding readersBelow
-  reader-one s j i k m a b c d e = block-one (readersOf s) j i k m (reads-block s j i a b) (reads-block s k m c d) e
+  reader-one s j i k m a b c d e = block-one (usersOf (tab .reads s)) j i k m (in-block (tab .reads s) j i a b) (in-block (tab .reads s) k m c d) e
 
   pub first-next : (s : ℕ) → firstUse tab (suc s) ≡ firstUse tab s + usesOf tab s
   unfolding firstUse total
@@ -102,25 +81,25 @@ module _ (tab : Table) where
   use-within s (wi r k i) (e, m, w, h) = rw e (omega arith, omega (arith, writer-lt s k i m w h, first-next s))
   use-within s (ri r k i) (e, m, w, h) = rw e (omega arith, omega (arith, reader-lt s k i m w h, first-next s))
 
+  -- two uses at one place, by the number of their one signal
+  of-signal : (s : ℕ) (x z : ℕ → ℕ → ℕ → Part) (r j i q k m : ℕ) → r ≡ s → q ≡ s → useOf tab (x r j i) ≡ useOf tab (z q k m) → useOf tab (x s j i) ≡ useOf tab (z s k m)
+  of-signal s x z r j i q k m a f e = ap (λ r. useOf tab (x r j i)) (sym a) ∙ e ∙ ap (λ r. useOf tab (z r k m)) f
+
   -- and no two at one place
   use-one : (s : ℕ) (x z : Part) → IsUse tab s x → IsUse tab s z → useOf tab x ≡ useOf tab z → x ≡ z
   use-one s (bf r) z u v e = absurd u
   use-one s (wi r j i) (bf q) u v e = absurd v
   use-one s (ri r j i) (bf q) u v e = absurd v
   use-one s (wi r j i) (wi q k m) (a, b, c, d) (f, g, h, l) e =
-      let z : useOf tab (wi s j i) ≡ useOf tab (wi s k m) = ap (λ r. useOf tab (wi r j i)) (sym a) ∙ e ∙ ap (λ r. useOf tab (wi r k m)) f in
+      let z = of-signal s wi wi r j i q k m a f e in
       let o = writer-one s j i k m c d h l (omega arith) in
-      ap (λ r. wi r j i) (a ∙ sym f) ∙ ap (λ k. wi q k i) (o .0) ∙ ap (wi q k) (o .1)
+      part-is wi r q j k i m (a ∙ sym f) (o .0) (o .1)
   use-one s (ri r j i) (ri q k m) (a, b, c, d) (f, g, h, l) e =
-      let z : useOf tab (ri s j i) ≡ useOf tab (ri s k m) = ap (λ r. useOf tab (ri r j i)) (sym a) ∙ e ∙ ap (λ r. useOf tab (ri r k m)) f in
+      let z = of-signal s ri ri r j i q k m a f e in
       let o = reader-one s j i k m c d h l (omega arith) in
-      ap (λ r. ri r j i) (a ∙ sym f) ∙ ap (λ k. ri q k i) (o .0) ∙ ap (ri q k) (o .1)
-  use-one s (wi r j i) (ri q k m) (a, b, c, d) (f, g, h, l) e =
-      let z : useOf tab (wi s j i) ≡ useOf tab (ri s k m) = ap (λ r. useOf tab (wi r j i)) (sym a) ∙ e ∙ ap (λ r. useOf tab (ri r k m)) f in
-      absurd (omega (arith, writer-lt s j i b c d))
-  use-one s (ri r j i) (wi q k m) (a, b, c, d) (f, g, h, l) e =
-      let z : useOf tab (ri s j i) ≡ useOf tab (wi s k m) = ap (λ r. useOf tab (ri r j i)) (sym a) ∙ e ∙ ap (λ r. useOf tab (wi r k m)) f in
-      absurd (omega (arith, writer-lt s k m g h l))
+      part-is ri r q j k i m (a ∙ sym f) (o .0) (o .1)
+  use-one s (wi r j i) (ri q k m) (a, b, c, d) (f, g, h, l) e = let z = of-signal s wi ri r j i q k m a f e in absurd (omega (arith, writer-lt s j i b c d))
+  use-one s (ri r j i) (wi q k m) (a, b, c, d) (f, g, h, l) e = let z = of-signal s ri wi r j i q k m a f e in absurd (omega (arith, writer-lt s k m g h l))
 
   -- one more is stored
   store : (E : Schedule) (s : ℕ) (uses : List ℕ) (x : Part) (v : ℕ) → useOf tab x < length uses → IsUse tab s x → v ≡ free E x
@@ -146,17 +125,6 @@ free-is tab held t e h f g =
           rw (List·getD-eq-default (take (most tab - 1) held) 0 {n = e} (omega (arith, length-take (most tab - 1) held))) (le-ltb t 0 zero-le));
       taken = λ d q. rw (getD-take (most tab - 1) held d 0 (omega arith)) (lt-ltb t (getD held d 0) (g d q));
     })
-
--- ---- what an opening or closing does
-
-module _ (tab : Table) (s : ℕ) where
-  pub choose-opening : (c : Choice) (t k : ℕ) → k < mostTasks → choose tab s c (openingNumber t k) ≡ opened tab s c k t
-  unfolding choose
-  choose-opening c t k h = let d = opening-digits t k h in rw (d .0, d .1, d .2)
-
-  pub choose-closing : (c : Choice) (t k : ℕ) → k < mostTasks → choose tab s c (closingNumber (suc t) k) ≡ closed tab s c k t
-  unfolding choose
-  choose-closing c t k h = let d = closing-digits (suc t) k h in let e : suc t - 1 ≡ t = omega arith in rw (d .0, d .1, d .2, e)
 
 -- ---- the plan's elements
 
@@ -210,6 +178,14 @@ module _ (tab : Table) (F : Fits tab) (s : ℕ) (y : s < tab .signals) where
       (λ i e. let n = opens-instance tab F k i t m e in inr (refl, n, subst (λ i. opens tab k i ≡ t) n e))
       j i o
 
+  -- so a use of an instance that has opened was made before, or is made there
+  made-cases : (part : ℕ → ℕ → ℕ → Part) (may : ℕ → Bool) (t k r j i : ℕ) → k < tab .tasks → r ≡ s → T (may j) → Opened tab t (suc k) j i
+      → Opened tab t k j i ⊎ ((part r j i ≡ part s k (instance tab k t)) × (opens tab k (instance tab k t) ≡ t) × T (may k))
+  made-cases part may t k r j i m e w o =
+      ⊎-elim (λ o. inl o)
+      (λ (a, b, c). inr (part-is part r s j k i (instance tab k t) e a b, c, subst (λ j. T (may j)) a w))
+      (opened-cases t k j i m o)
+
   -- use x has been made
   abbrev Done : ℕ → ℕ → ℕ → Part → Type 0
   Done t k l (bf r) = ⊥
@@ -220,19 +196,13 @@ module _ (tab : Table) (F : Fits tab) (s : ℕ) (y : s < tab .signals) where
       → Done t k l x ⊎ ((x ≡ ri s k (instance tab k t)) × (opens tab k (instance tab k t) ≡ t) × T (tab .reads s k))
   read-cases t k l (bf r) m u d = absurd d
   read-cases t k l (wi r j i) m u d = inl d
-  read-cases t k l (ri r j i) m u d =
-      ⊎-elim (λ o. inl o)
-      (λ (a, b, c). inr (ap (λ r. ri r j i) (u .0) ∙ ap (λ j. ri s j i) a ∙ ap (ri s k) b, c, subst (λ j. T (tab .reads s j)) a (u .2)))
-      (opened-cases t k j i m d)
+  read-cases t k l (ri r j i) m u d = made-cases ri (tab .reads s) t k r j i m (u .0) (u .2) d
 
   write-cases : (t k l : ℕ) (x : Part) → k < tab .tasks → IsUse tab s x → Done t l (suc k) x
       → Done t l k x ⊎ ((x ≡ wi s k (instance tab k t)) × (opens tab k (instance tab k t) ≡ t) × T (tab .writes s k))
   write-cases t k l (bf r) m u d = absurd d
   write-cases t k l (ri r j i) m u d = inl d
-  write-cases t k l (wi r j i) m u d =
-      ⊎-elim (λ o. inl o)
-      (λ (a, b, c). inr (ap (λ r. wi r j i) (u .0) ∙ ap (λ j. wi s j i) a ∙ ap (wi s k) b, c, subst (λ j. T (tab .writes s j)) a (u .2)))
-      (opened-cases t k j i m d)
+  write-cases t k l (wi r j i) m u d = made-cases wi (tab .writes s) t k r j i m (u .0) (u .2) d
 
   done-next : (t : ℕ) (x : Part) → IsUse tab s x → Done (suc t) 0 0 x → Done t (tab .tasks) (tab .tasks) x
   done-next t (bf r) u d = d
@@ -310,10 +280,8 @@ module _ (tab : Table) (F : Fits tab) (s : ℕ) (y : s < tab .signals) where
       has-room : (uses : List ℕ) (x : Part) → length uses ≡ length before → IsUse tab s x → useOf tab x < length uses
       has-room uses x e u = omega (arith, use-within tab s x u, first-upto tab (suc s) (tab .signals) y, first-all tab F)
 
-      followed : Steps tab s (choose tab s) (reads tab s) (takes tab s) (publishes tab s) Follows
+      followed : Steps tab s (reads tab s) (takes tab s) (publishes tab s) Follows
       followed = record {
-        opening = λ c t k h. choose-opening tab s c t k h;
-        closing = λ c t k h. choose-closing tab s c t k h;
         no-reader = λ t k l c h m f K. record {
           pass = no-reader tab F E s y t k l (passOf c) h m (λ i e x. f i e (x .1)) (K .pass);
           width = K .width;
@@ -409,7 +377,7 @@ module _ (tab : Table) (F : Fits tab) (s : ℕ) (y : s < tab .signals) where
       pub chooses-plan : ChoosesPlan tab s before
       unfolding chosen
       chooses-plan =
-          let K = passed tab s (choose tab s) (reads tab s) (takes tab s) (publishes tab s) F y Follows followed (unchosen tab s before) follows-start in
+          let K = passed tab s (reads tab s) (takes tab s) (publishes tab s) F y Follows followed (unchosen tab s before) follows-start in
           let (v, x, z, e) = K .reached in
           let low = plan-count tab F s y (chosen tab s before .count) (λ v x z. K .above v x z (all v x)) in
           let high = below tab F v x in

@@ -19,8 +19,7 @@ use Rattle.rules.specs.declared.Task.{Task}
 use Rattle.rules.specs.declared.Access.{Access}
 use Rattle.theory.specs.TableBytes.{SameTable}
 use Rattle.theory.proofs.Tests.{split, agree}
-use Rattle.theory.proofs.Lists.{In, in-left, in-right, in-gather, in-only, All, all-in, all-append, all-gather, all-only, Rising, rising-up, rising-append, rising-gather, rising-only}
-use Rattle.theory.proofs.Sections.{flat-gather}
+use Rattle.theory.proofs.Lists.{In, in-left, in-right, in-gather, in-only, All, all-in, all-append, all-gather, all-only, Rising, rising-up, rising-append, rising-gather, rising-only, flat-gather}
 use Rattle.theory.proofs.Records.{taskForm, signalForm, accessForm, each-right, Names}
 
 -- ---- the list of f 0, .. f (n - 1)

@@ -7,25 +7,11 @@ use native.Mathlib.Numerals.{add-one}
 use native.Mathlib.Omega.{arith}
 use lib.ListN.{length, getD, take, drop, set, length-append, length-set}
 use lib.Seq.{drop-drop, drop-append-seam, take-suc-set, append-snoc, getD-take}
-use Rattle.rules.specs.Words.{gather}
 use Rattle.rules.specs.Numbers.{Told}
 use Rattle.rules.specs.Records.{Step, End}
 use Rattle.rules.specs.Reading.{Section, follow, section, from}
 use Rattle.theory.specs.TableBytes.{AreBytes}
 use Rattle.theory.proofs.Lists.{All}
-
--- ---- the bytes of records, one after the other
-
-module _ {A : Type 0} (form : A → List ℕ) where
-  flat-append : (xs ys : List A) → flatMap form (xs ++ ys) ≡ flatMap form xs ++ flatMap form ys
-  unfolding flatMap
-  flat-append [] ys = refl
-  flat-append (x ∷ xs) ys = ap {B = List ℕ} (λ l. form x ++ l) (flat-append xs ys) ∙ sym (append-assoc (form x) (flatMap form xs) (flatMap form ys))
-
-  pub flat-gather : (f : ℕ → List A) (g : ℕ → List ℕ) (n : ℕ) → ((k : ℕ) → flatMap form (f k) ≡ g k) → flatMap form (gather n f) ≡ gather n g
-  unfolding flatMap gather
-  flat-gather f g zero e = refl
-  flat-gather f g (suc n) e = flat-append (gather n f) (f n) ∙ rw (flat-gather f g n e, e n)
 
 -- what follows the bytes that stand at a place
 pub after : (bytes : List ℕ) (p : ℕ) (front rest : List ℕ) → drop p bytes ≡ front ++ rest → drop (p + length front) bytes ≡ rest

@@ -15,7 +15,7 @@ use Rattle.rules.specs.Windows.{Table, opens, closes, instance, instances, hype
 use Rattle.rules.specs.Values.{Value, carried, by, signalOf, publisher, bound, opening, until, Live, IsValue}
 use Rattle.rules.specs.Table.{mostTasks, Fits}
 use Rattle.rules.specs.Schedule.{Schedule, most, elementOf}
-use Rattle.theory.specs.Sweep.{closingNumber, openingNumber, taskIn, tickIn, isOpening, openingsAt, closingsAfter, events, through, Pass, readerOpens, writerOpens, writerCloses, opened, closed, handled, started, sweep, SignalPasses, SweepExact, SweepsExact}
+use Rattle.theory.specs.Sweep.{closingNumber, openingNumber, taskIn, tickIn, isOpening, openingsAt, closingsAfter, events, through, opened, closed, acted, Pass, readerOpens, writerOpens, writerCloses, started, sweep, SignalPasses, SweepExact, SweepsExact}
 use Rattle.theory.proofs.Tests.{split, splitOption, both, is, holds, not-both}
 use Rattle.theory.proofs.Time.{highest-some, instance-lt, closes-le}
 use Rattle.theory.proofs.Bound.{bound-signal, bound-value, live-begins}
@@ -55,24 +55,23 @@ closing-digits t k h =
       ap (λ x. x / 2) d ∙ digits-div t {m = 2} {r = 0} (omega arith),
     )
 
-module _ (tab : Table) (E : Schedule) (s : ℕ) where
-  pub handled-opening : (p : Pass) (t k : ℕ) → k < mostTasks → handled tab E s p (openingNumber t k) ≡ opened tab E s p k t
-  unfolding handled
-  handled-opening p t k h = let d = opening-digits t k h in rw (d .0, d .1, d .2)
-
-  pub handled-closing : (p : Pass) (t k : ℕ) → k < mostTasks → handled tab E s p (closingNumber (suc t) k) ≡ closed tab E s p k t
-  unfolding handled
-  handled-closing p t k h = let d = closing-digits (suc t) k h in let e : suc t - 1 ≡ t = omega arith in rw (d .0, d .1, d .2, e)
-
 -- ---- tick by tick
 
 -- A pass that at each opening reads, then writes, and at each closing publishes, as the table says of signal s.
-module _ (tab : Table) (s : ℕ) {A : Type 0} (f : A → ℕ → A) (reads writes publishes : A → ℕ → ℕ → A) where
+module _ (tab : Table) (s : ℕ) {A : Type 0} (reads writes publishes : A → ℕ → ℕ → A) where
+  abbrev f : A → ℕ → A
+  f = acted tab s reads writes publishes
+
+  at-opening : (a : A) (t k : ℕ) → k < mostTasks → f a (openingNumber t k) ≡ opened tab s reads writes a k t
+  unfolding acted
+  at-opening a t k h = let d = opening-digits t k h in rw (d .0, d .1, d .2)
+
+  at-closing : (a : A) (t k : ℕ) → k < mostTasks → f a (closingNumber (suc t) k) ≡ closed tab s publishes a k t
+  unfolding acted
+  at-closing a t k h = let d = closing-digits (suc t) k h in let e : suc t - 1 ≡ t = omega arith in rw (d .0, d .1, d .2, e)
+
   -- what it keeps at tick t, once the readers below k and the writers below l have opened
   pub record Steps (P : ℕ → ℕ → ℕ → A → Type 0) : Type 0 where
-    pub opening : (a : A) (t k : ℕ) → k < mostTasks
-        → f a (openingNumber t k) ≡ cond (tab .writes s k) (writes (cond (tab .reads s k) (reads a k t) a) k t) (cond (tab .reads s k) (reads a k t) a)
-    pub closing : (a : A) (t k : ℕ) → k < mostTasks → f a (closingNumber (suc t) k) ≡ cond (tab .writes s k) (publishes a k t) a
     pub no-reader : (t k l : ℕ) (a : A) → t < hyper tab → k < tab .tasks → ((i : ℕ) → opens tab k i ≡ t → T (tab .reads s k) → ⊥) → P t k l a → P t (suc k) l a
     pub reader : (t k l : ℕ) (a : A) → t < hyper tab → k < tab .tasks → opens tab k (instance tab k t) ≡ t → T (tab .reads s k) → P t k l a → P t (suc k) l (reads a k t)
     pub no-writer : (t k l : ℕ) (a : A) → t < hyper tab → k < tab .tasks → ((i : ℕ) → opens tab k i ≡ t → T (tab .writes s k) → ⊥) → P t l k a → P t l (suc k) a
@@ -92,8 +91,8 @@ module _ (tab : Table) (s : ℕ) {A : Type 0} (f : A → ℕ → A) (reads write
         through-append f a (gather n (λ k. only (eqb (closes tab k (instance tab k t)) (suc t)) (closingNumber (suc t) k))) _
         ∙ split (eqb (closes tab n (instance tab n t)) (suc t))
         (λ c. split (tab .writes s n)
-        (λ w. rw (c, w, S .closing (through f a (gather n (λ k. only (eqb (closes tab k (instance tab k t)) (suc t)) (closingNumber (suc t) k)))) t n (omega (arith, F .few-tasks)), w, r, alone w c))
-        (λ w. rw (c, w, S .closing (through f a (gather n (λ k. only (eqb (closes tab k (instance tab k t)) (suc t)) (closingNumber (suc t) k)))) t n (omega (arith, F .few-tasks)), w) r))
+        (λ w. rw (c, w, at-closing (through f a (gather n (λ k. only (eqb (closes tab k (instance tab k t)) (suc t)) (closingNumber (suc t) k)))) t n (omega (arith, F .few-tasks)), w, r, alone w c))
+        (λ w. rw (c, w, at-closing (through f a (gather n (λ k. only (eqb (closes tab k (instance tab k t)) (suc t)) (closingNumber (suc t) k)))) t n (omega (arith, F .few-tasks)), w) r))
         (λ c. split (tab .writes s n) (λ w. rw (c, w) r) (λ w. rw (c, w) r))
       where
         alone : tab .writes s n ≡ true → eqb (closes tab n (instance tab n t)) (suc t) ≡ true → highest (λ k. tab .writes s k && eqb (closes tab k (instance tab k t)) (suc t)) n ≡ none
@@ -125,7 +124,7 @@ module _ (tab : Table) (s : ℕ) {A : Type 0} (f : A → ℕ → A) (reads write
     opening-kept t k a h m K =
         split (eqb (opens tab k (instance tab k t)) t)
         (λ q. let o = eqb-true (opens tab k (instance tab k t)) t q in
-        rw (q, S .opening a t k (omega (arith, F .few-tasks)))
+        rw (q, at-opening a t k (omega (arith, F .few-tasks)))
         (writer-kept t k (suc k) (cond (tab .reads s k) (reads a k t) a) h m o (reader-kept t k k a h m o K)))
         (λ q.
         let none : (i : ℕ) → opens tab k i ≡ t → ⊥ = λ i e. eqb-false (opens tab k (instance tab k t)) t q (subst (λ j. opens tab k j ≡ t) (opens-instance tab F k i t m e) e) in
@@ -150,10 +149,8 @@ module _ (tab : Table) (s : ℕ) {A : Type 0} (f : A → ℕ → A) (reads write
 -- ---- the check's pass
 
 module _ (tab : Table) (F : Fits tab) (E : Schedule) (s : ℕ) (y : s < tab .signals) (low : (v : Value) → IsValue tab v → signalOf v ≡ s → elementOf E v < most tab) where
-  checked : Steps tab s (handled tab E s) (readerOpens tab E s) (writerOpens tab E s) (writerCloses tab E s) (Kept tab F E s y)
+  checked : Steps tab s (readerOpens tab E s) (writerOpens tab E s) (writerCloses tab E s) (Kept tab F E s y)
   checked = record {
-    opening = λ p t k h. handled-opening tab E s p t k h;
-    closing = λ p t k h. handled-closing tab E s p t k h;
     no-reader = λ t k l p h m f K. no-reader tab F E s y t k l p h m (λ i e x. f i e (x .1)) K;
     reader = λ t k l p h m o r K. reader-opens tab F E s y t k l p h m o r K;
     no-writer = λ t k l p h m f K. no-writer tab F E s y t k l p h m (λ i e x. f i e (x .2)) K;
@@ -164,7 +161,7 @@ module _ (tab : Table) (F : Fits tab) (E : Schedule) (s : ℕ) (y : s < tab .sig
 
   swept : Kept tab F E s y (hyper tab) 0 0 (sweep tab E s)
   unfolding sweep
-  swept = passed tab s (handled tab E s) (readerOpens tab E s) (writerOpens tab E s) (writerCloses tab E s) F y (Kept tab F E s y) checked (started tab E s) (at-start tab F E s y)
+  swept = passed tab s (readerOpens tab E s) (writerOpens tab E s) (writerCloses tab E s) F y (Kept tab F E s y) checked (started tab E s) (at-start tab F E s y)
 
 -- ---- at the end
 

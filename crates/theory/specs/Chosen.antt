@@ -1,6 +1,5 @@
 -- The plan of a signal in one pass over all openings and closings of the hyper-period, each element with one until-tick: the form of the code. Assumes nothing.
 use Prim.Native.Nat.{ℕ, suc, _+_, _-_, _≤_, _<_, max}
-use mathlib.Core.Bool.{cond}
 use mathlib.Core.List.{List}
 use mathlib.Core.Logic.{_⊎_}
 use mathlib.Core.Path.{_≡_}
@@ -13,7 +12,7 @@ use Rattle.rules.specs.Schedule.{Schedule, most}
 use Rattle.rules.specs.Plan.{plan}
 use Rattle.rules.specs.Bytes.{Part, bf, wi, ri, free, writersBelow, readersBelow}
 use Rattle.theory.specs.Untils.{firstFree}
-use Rattle.theory.specs.Sweep.{taskIn, tickIn, isOpening, never, noneHeld, events, through}
+use Rattle.theory.specs.Sweep.{never, noneHeld, events, through, acted}
 
 -- ---- the uses of a table, numbered as their records stand in a schedule
 
@@ -101,14 +100,8 @@ module _ (tab : Table) (s : ℕ) where
   abbrev pub publishes : Choice → ℕ → ℕ → Choice
   publishes c k t = followed c k (suc t)
 
-  abbrev pub opened : Choice → ℕ → ℕ → Choice
-  opened c k t = let d = cond (tab .reads s k) (reads c k t) c in cond (tab .writes s k) (takes d k t) d
-
-  abbrev pub closed : Choice → ℕ → ℕ → Choice
-  closed c k t = cond (tab .writes s k) (publishes c k t) c
-
-  unfoldable pub choose : Choice → ℕ → Choice
-  choose c n = cond (isOpening n) (opened c (taskIn n) (tickIn n)) (closed c (taskIn n) (tickIn n - 1))
+  abbrev pub choose : Choice → ℕ → Choice
+  choose = acted tab s reads takes publishes
 
   -- at the start the carried value stands in element 0
   abbrev pub unchosen : List ℕ → Choice

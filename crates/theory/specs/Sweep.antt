@@ -50,6 +50,18 @@ unfoldable pub through : {A : Type 0} → (A → ℕ → A) → A → List ℕ �
 through f a [] = a
 through f a (n ∷ ns) = through f (f a n) ns
 
+-- task k opens at tick t: for signal s it reads, then writes, if it may
+abbrev pub opened : {A : Type 0} → Table → ℕ → (reads writes : A → ℕ → ℕ → A) → A → ℕ → ℕ → A
+opened tab s reads writes a k t = let b = cond (tab .reads s k) (reads a k t) a in cond (tab .writes s k) (writes b k t) b
+
+-- its window ends with tick t: it publishes, if it may
+abbrev pub closed : {A : Type 0} → Table → ℕ → (publishes : A → ℕ → ℕ → A) → A → ℕ → ℕ → A
+closed tab s publishes a k t = cond (tab .writes s k) (publishes a k t) a
+
+-- what the opening or closing with number n does
+unfoldable pub acted : {A : Type 0} → Table → ℕ → (reads writes publishes : A → ℕ → ℕ → A) → A → ℕ → A
+acted tab s reads writes publishes a n = cond (isOpening n) (opened tab s reads writes a (taskIn n) (tickIn n)) (closed tab s publishes a (taskIn n) (tickIn n - 1))
+
 -- What is known after some of them: no mistake was met; the tick until which each element is held; the element of the value that stands;
 -- the last closing of the readers that opened since it was published.
 pub record Pass : Type 0 where
@@ -89,14 +101,8 @@ module _ (tab : Table) (E : Schedule) (s : ℕ) where
   abbrev pub writerCloses : Pass → ℕ → ℕ → Pass
   writerCloses p k t = publishing p (E .writer s k (instance tab k t)) (suc t)
 
-  abbrev pub opened : Pass → ℕ → ℕ → Pass
-  opened p k t = let q = cond (tab .reads s k) (readerOpens p k t) p in cond (tab .writes s k) (writerOpens q k t) q
-
-  abbrev pub closed : Pass → ℕ → ℕ → Pass
-  closed p k t = cond (tab .writes s k) (writerCloses p k t) p
-
-  unfoldable pub handled : Pass → ℕ → Pass
-  handled p n = cond (isOpening n) (opened p (taskIn n) (tickIn n)) (closed p (taskIn n) (tickIn n - 1))
+  abbrev pub handled : Pass → ℕ → Pass
+  handled = acted tab s readerOpens writerOpens writerCloses
 
   -- at the start the carried value stands in element 0
   abbrev pub started : Pass

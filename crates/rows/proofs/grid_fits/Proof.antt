@@ -31,5 +31,5 @@ grid-fits-spec =
     (λ c κs. search needs)
     (λ c. search needs)
     (λ c. search needs)
-    (λ c. (omega arith, tested-turn _ _ (c .and .ensures) (c .before .before .before .before .loop .inv .1) (c .before .row-fits .ensures)))
+    (λ c. (omega arith, tested-turn _ _ (c .both .ensures) (c .before .before .before .before .loop .inv .1) (c .before .row-fits .ensures)))
     (λ c. tested-end _ _ mostTasks (c .before .loop .inv .1) (omega arith) (omega arith)))

@@ -13,4 +13,4 @@ inside-spec =
     (λ c κs. search needs)
     (λ c κs. search needs)
     (λ c κs. search needs)
-    (λ c. c .instance-if .ensures ∙ rw (c .before .and .ensures, c .before .before .phase .ensures .0)))
+    (λ c. c .instance-if .ensures ∙ rw (c .before .both .ensures, c .before .before .phase .ensures .0)))

@@ -22,4 +22,4 @@ is-fit-spec =
     (λ c κs. search needs)
     (λ c κs. search needs)
     (λ c κs. search needs)
-    (λ c. c .and5 .ensures ∙ ap₂ _&&_ (c .before .before .is-running .ensures) (c .before .and4 .ensures ∙ ap₂ _&&_ (c .before .before .before .before .before .before .before .before .before .before .before .and .ensures ∙ ap₂ _&&_ (c .before .before .before .before .before .before .before .before .before .before .before .before .before .grid-fits .ensures) (c .before .before .before .before .before .before .before .before .before .before .before .before .grid-fits2 .ensures)) (c .before .before .before .and3 .ensures ∙ ap₂ _&&_ (c .before .before .before .before .before .before .and2 .ensures ∙ ap₂ _&&_ (c .before .before .before .before .before .before .before .before .before .positions-fit .ensures) (c .before .before .before .before .before .before .before .positions-fit2 .ensures)) (c .before .before .before .before .positions-fit3 .ensures)))))
+    (λ c. c .both5 .ensures ∙ ap₂ _&&_ (c .before .before .is-running .ensures) (c .before .both4 .ensures ∙ ap₂ _&&_ (c .before .before .before .before .before .before .before .before .before .before .before .both .ensures ∙ ap₂ _&&_ (c .before .before .before .before .before .before .before .before .before .before .before .before .before .grid-fits .ensures) (c .before .before .before .before .before .before .before .before .before .before .before .before .grid-fits2 .ensures)) (c .before .before .before .both3 .ensures ∙ ap₂ _&&_ (c .before .before .before .before .before .before .both2 .ensures ∙ ap₂ _&&_ (c .before .before .before .before .before .before .before .before .before .positions-fit .ensures) (c .before .before .before .before .before .before .before .positions-fit2 .ensures)) (c .before .before .before .before .positions-fit3 .ensures)))))

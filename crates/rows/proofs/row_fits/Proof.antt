@@ -35,5 +35,5 @@ row-fits-spec =
     (λ c κs. search needs)
     (λ c. search needs)
     (λ c. search needs)
-    (λ c. (omega arith, tested-turn _ _ (c .and .ensures) (c .before .before .before .before .loop .inv .1) (c .before .is-within .ensures)))
+    (λ c. (omega arith, tested-turn _ _ (c .both .ensures) (c .before .before .before .before .loop .inv .1) (c .before .is-within .ensures)))
     (λ c. rw (le-leb _ _ (c .before .before .if1 .left)) (tested-end _ _ mostSignals (c .before .loop .inv .1) (omega arith) (omega arith))))

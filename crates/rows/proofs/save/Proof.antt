@@ -2,7 +2,7 @@
 use native.Mathlib.Omega.{arith}
 use borrow.Author.Needs.{needs}
 use borrow.Author.Tests.{lt-ltb, le-ltb}
-use Rattle.rows.specs.Fitness.{words}
+use Rattle.rules.specs.Table.{words}
 use Rattle.rows.specs.Rows.{save}
 use Rattle.rows.proofs.save.Statement.{statement}
 use Rattle.rows.proofs.save.Tie as tie

@@ -1,8 +1,9 @@
 -- `with_two` meets its contract. Assumes nothing.
 use mathlib.Core.Path.{sym, ap, _∙_}
 use borrow.Author.Needs.{needs}
+use Rattle.rules.specs.Table.{mostLent}
 use Rattle.console.specs.Digits.{numberOf}
-use Rattle.console.specs.Commands.{anyNumber, mostRecords, liveOf, readOf, withTwo}
+use Rattle.console.specs.Commands.{anyNumber, liveOf, readOf, withTwo}
 use Rattle.fields.proofs.Tested.{said}
 use Rattle.fields.proofs.Whens.{past, here, ladder}
 use Rattle.console.proofs.Figures.{both}
@@ -17,7 +18,7 @@ returns c =
     let at-same = at-if1 .before in
     let at-after-word = at-same .before .before in
     let at-first-word = at-after-word .before in
-    here _ _ (said (at-same .same .ensures) (at-if1 .if1 .taken)) (c .live .ensures ∙ both liveOf (sym (at-number .number .ensures ∙ ap (numberOf anyNumber) (at-first-word .first-word .ensures))) (sym (c .before .number2 .ensures ∙ ap (numberOf mostRecords) (at-after-word .after-word .ensures))))
+    here _ _ (said (at-same .same .ensures) (at-if1 .if1 .taken)) (c .live .ensures ∙ both liveOf (sym (at-number .number .ensures ∙ ap (numberOf anyNumber) (at-first-word .first-word .ensures))) (sym (c .before .number2 .ensures ∙ ap (numberOf mostLent) (at-after-word .after-word .ensures))))
 
 returns-2 : tie.Need-returns-2
 unfolding withTwo

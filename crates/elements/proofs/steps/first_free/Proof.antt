@@ -4,7 +4,7 @@ use mathlib.Core.Path.{sym}
 use native.Mathlib.Omega.{arith}
 use lib.ListN.{getD}
 use borrow.Author.Count.{below-more}
-use Rattle.elements.specs.Steps.{mostElements}
+use Rattle.rules.specs.Table.{mostElements}
 use Rattle.elements.proofs.Passed.{free-in}
 use Rattle.elements.proofs.steps.first_free.Statement.{statement}
 use Rattle.elements.proofs.steps.first_free.Tie as tie

@@ -3,9 +3,9 @@ use mathlib.Core.Path.{_≡_, refl, sym, _∙_}
 use Prim.Native.Nat.{_-_, _*_, _≤_}
 use native.Mathlib.Omega.{arith}
 use borrow.Author.Needs.{needs}
-use Rattle.rules.specs.Table.{mostSignals}
+use Rattle.rules.specs.Table.{mostSignals, mostElements}
 use Rattle.form.specs.declared.forms.Walk.{Walk}
-use Rattle.form.specs.Records.{mostElements, partsIn}
+use Rattle.form.specs.Records.{partsIn}
 use Rattle.form.specs.Form.{walked, step}
 use Rattle.form.proofs.Walks.{walked-none, walked-turn, walked-stopped}
 use Rattle.form.proofs.Running.{sum-small}

@@ -46,7 +46,8 @@ use denote.Triple.Clauses.{ensured, lasts}
 use denote.Exit.{yes}
 use Rattle.lives.specs.declared.LiveValue.{LiveValue}
 use Rattle.lives.specs.declared.Lives.{Lives}
-use Rattle.lives.specs.Values.{recordIn, filledFrom, valueAt, filled}
+use Rattle.rules.specs.Table.{mostValues}
+use Rattle.lives.specs.Values.{recordWords, recordIn, filledFrom, valueAt, filled}
 use Rattle.lives.proofs.Lives as P
 use Rattle.lives.proofs.Lives.Laws as P′
 use Rattle.lives.proofs.Lending.{arrayTy, shares-array, shared-back}
@@ -86,7 +87,7 @@ module _ {M : Type 1} (𝓤 : URA M) (H : Heap 𝓤) (A : Atoms 𝓤) (mem : Mem
 
 -- The machine value of the values is m, which is left a variable: written out, antt would compute through its 513 records
 module _ {M : Type 1} (𝓤 : URA M) (H : Heap 𝓤) (A : Atoms 𝓤) (W : Given 𝓤 H A) (mem : Memory → SProp 𝓤) (run : Routine → Fun 𝓤) (κ : Lft) (q : Share) (b o : ℕ) (γ : GName) (ys : List LiveValue) (p : Lives) (n : ℕ)
-    (m : Val) (room : Room R (length ys)) (p-is : Is P.the-row p (m ∷ [])) (n-fits : n < 2 ^ 64) (enough : (n ≤ length ys) × (n ≤ 513)) where
+    (m : Val) (room : Room R (length ys)) (p-is : Is P.the-row p (m ∷ [])) (n-fits : n < 2 ^ 64) (enough : (n ≤ length ys) × (n ≤ mostValues)) where
   abbrev list : RefT (List LiveValue)
   list = record { ptr = (b, o); name = γ; now = ys }
 
@@ -107,7 +108,7 @@ module _ {M : Type 1} (𝓤 : URA M) (H : Heap 𝓤) (A : Atoms 𝓤) (W : Given
 
   -- ---- the call of `packed`
   abbrev Packs : List ℕ → Type 0
-  Packs ws = (length ws ≡ 513 * 5) × ((k : ℕ) → k < 513 → recordIn ws k ≡ valueAt p k)
+  Packs ws = (length ws ≡ mostValues * recordWords) × ((k : ℕ) → k < mostValues → recordIn ws k ≡ valueAt p k)
 
   abbrev to-packed : Packing 𝓤 H A mem run .Ghost
   to-packed = ((tt, tt, tt, (p, tt), (m ∷ [], tt)), tt)
@@ -210,7 +211,7 @@ module _ {M : Type 1} (𝓤 : URA M) (H : Heap 𝓤) (A : Atoms 𝓤) (W : Given
   fill-walks : (C : Calls 𝓤 H) (Λ : Loops 𝓤 H) → FmC 𝓤 H (W .laws) C → Triple 𝓤 (C #lives·packed) (Packing 𝓤 H A mem run) → Triple 𝓤 (C #lives·fill-from) (Filling 𝓤 H A mem run) → Walks 𝓤 H A fill′.ended stayed (WpFn 𝓤 H C Λ code.function) (fill′.clauses 𝓤 H A mem run)
   fill-walks C Λ fm known-packed known = walked 𝓤 H A fill′.ended stayed (fill′.clauses 𝓤 H A mem run) (WpFn 𝓤 H C Λ code.function)
       (λ κs. (slice-vals, (LL.vals P.the-type P′.the-laws, (uint-vals w64, tt)))) (λ κs. (mut-slice-tells (named 0) (κs .0) R, (LL.tells P.the-type P′.the-laws, (uint-tells w64, tt))))
-      (λ κs qs bounds a g are. needs 𝓤 ((a .1 .1 .0 ≤ length (a .0 .now)) × (a .1 .1 .0 ≤ 513)) _ (λ enough.
+      (λ κs qs bounds a g are. needs 𝓤 ((a .1 .1 .0 ≤ length (a .0 .now)) × (a .1 .1 .0 ≤ mostValues)) _ (λ enough.
       walk 𝓤 H A W mem run (κs .0) (qs .0) (a .0 .ptr .0) (a .0 .ptr .1) (a .0 .name) (a .0 .now) (a .1 .0) (a .1 .1 .0) (LL.val P.the-type P′.the-laws (a .1 .0)) (are .0 .0 .1) (are .1 .0) (are .1 .1 .0 .1) enough C Λ fm known-packed known))
 
 fill-meets : {M : Type 1} (𝓤 : URA M) (H : Heap 𝓤) (A : Atoms 𝓤) (W : Given 𝓤 H A) (mem : Memory → SProp 𝓤) (run : Routine → Fun 𝓤) (𝓣 : Tables 𝓤 H) → Triple 𝓤 (𝓣 .C #lives·packed) (Packing 𝓤 H A mem run) → Triple 𝓤 (𝓣 .C #lives·fill-from) (Filling 𝓤 H A mem run)

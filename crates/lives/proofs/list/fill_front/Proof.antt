@@ -41,6 +41,7 @@ use denote.Triple.Walked.{says, needs, Stays, stay-none, stay-none-slice, gave-s
 use denote.Triple.Clauses.{ensured, lasts}
 use denote.Exit.{yes}
 use Rattle.rules.specs.declared.Answer.{Answer}
+use Rattle.rules.specs.Table.{mostValues}
 use Rattle.rules.specs.Numbers.{told}
 use Rattle.rules.proofs.Answer as S
 use Rattle.rules.proofs.Answer.Laws as S′
@@ -166,7 +167,7 @@ module _ {M : Type 1} (𝓤 : URA M) (H : Heap 𝓤) (A : Atoms 𝓤) (W : Given
   abbrev to-fill : Lives → ℕ → Val → Val → Fill 𝓤 H A mem run .Ghost
   to-fill p n u z = (((κ, tt), (q, tt), tt, (list, (p, (n, tt))), (s ∷ [], (u ∷ [], (z ∷ [], tt)))), tt)
 
-  goes-fill : (p : Lives) (n : ℕ) (u z : Val) → (n ≤ length ys) × (n ≤ 513)
+  goes-fill : (p : Lives) (n : ℕ) (u z : Val) → (n ≤ length ys) × (n ≤ mostValues)
       → ent 𝓤 (⋆ 𝓤 H A ((‵ (flft κ q) ⊛ ‵ ftrue) ∷ ‵ (owns (MutSlice (named 0) κ R ∷ P.the-row ∷ usize ∷ []) (list, (p, (n, tt))) (s ∷ [], (u ∷ [], (z ∷ [], tt)))) ∷ [])) (Fill 𝓤 H A mem run .pre (to-fill p n u z))
   goes-fill p n u z few = qed W ((‵ (flft κ q) ⊛ ‵ ftrue) ∷ ‵ (owns (MutSlice (named 0) κ R ∷ P.the-row ∷ usize ∷ []) (list, (p, (n, tt))) (s ∷ [], (u ∷ [], (z ∷ [], tt)))) ∷ []) ∵ says ! few $ frame ! $ done !
 
@@ -177,8 +178,8 @@ module _ {M : Type 1} (𝓤 : URA M) (H : Heap 𝓤) (A : Atoms 𝓤) (W : Given
   together : (p : Lives) (n : ℕ) (r : Answer) (zs : List LiveValue) → Fills xs sg rm p → n ≡ p .count → r ≡ p .answer → zs ≡ filled p n ys → Done r zs
   together p n r zs e e₂ e₃ e₄ = (ap told e₃ ∙ e .says, e₄ ∙ ap (λ (k : ℕ). filled p k ys) e₂ ∙ e .fills ys)
 
-  few-enough : (p : Lives) (n : ℕ) → Fills xs sg rm p → n ≡ p .count → (n ≤ length ys) × (n ≤ 513)
-  few-enough p n e e₂ = subst (λ (k : ℕ). (k ≤ length ys) × (k ≤ 513)) (sym e₂) (le-trans (e .lent) enough, e .few)
+  few-enough : (p : Lives) (n : ℕ) → Fills xs sg rm p → n ≡ p .count → (n ≤ length ys) × (n ≤ mostValues)
+  few-enough p n e e₂ = subst (λ (k : ℕ). (k ≤ length ys) × (k ≤ mostValues)) (sym e₂) (le-trans (e .lent) enough, e .few)
 
   exits : (r : Answer) (w : Val) (zs : List LiveValue) → Done r zs → length zs ≡ length ys
       → ent 𝓤 (⋆ 𝓤 H A ((‵ (flft κ q) ⊛ ‵ ftrue) ∷ (‵ (flft κ′ q′) ⊛ ‵ ftrue) ∷ ‵ (finally R γ zs) ∷ ‵ OwnX ∷ ‵ (S.the-row .own r (w ∷ [])) ∷ [])) (Post w)

@@ -45,6 +45,7 @@ use denote.Triple.Walked.{says, Stays, stay-none, stay-none-slice, walkOf, goes-
 use denote.Triple.Clauses.{ensured, lasts}
 use denote.Exit.{yes}
 use Rattle.rules.specs.declared.Answer.{Answer}
+use Rattle.rules.specs.Table.{mostLent}
 use Rattle.rules.specs.Numbers.{told}
 use Rattle.rules.proofs.Answer as S
 use Rattle.rules.proofs.Answer.Laws as S′
@@ -72,10 +73,6 @@ use Rattle.lives.proofs.list.lent.Code as code
 abbrev stayed : Stays (values′.ended .signature .params) (values′.ended .kept)
 stayed = (stay-none-slice (0 ∷ []) tt (plain (λ _. u8)) yes, (stay-none (λ _. usize) yes, (stay-none (λ _. usize) yes, (stay-none (λ _. R) yes, tt))))
 
--- the records of the list that is lent
-abbrev many : ℕ
-many = 600
-
 -- the contracts that the proof cites
 abbrev Front : {M : Type 1} (𝓤 : URA M) (H : Heap 𝓤) (A : Atoms 𝓤) (mem : Memory → SProp 𝓤) (run : Routine → Fun 𝓤) → Contract 𝓤
 Front 𝓤 H A mem run = tripleOf 𝓤 H A front.signature (front.spec 𝓤 H A mem run)
@@ -86,7 +83,7 @@ AtMost 𝓤 H A mem run = tripleOf 𝓤 H A atmost.signature (atmost.spec 𝓤 H
 module _ {M : Type 1} (𝓤 : URA M) (H : Heap 𝓤) (A : Atoms 𝓤) (W : Given 𝓤 H A) (mem : Memory → SProp 𝓤) (run : Routine → Fun 𝓤) (κ : Lft) (q : Share) (x : RefT (List ℕ)) (sg rm : ℕ) (v : LiveValue)
     (mv : Val) (sg-fits : sg < 2 ^ 64) (rm-fits : rm < 2 ^ 64) (v-is : Is R v (mv ∷ [])) where
   abbrev ys : List LiveValue
-  ys = replicate many v
+  ys = replicate mostLent v
 
   abbrev xs : List ℕ
   xs = x .now
@@ -118,15 +115,15 @@ module _ {M : Type 1} (𝓤 : URA M) (H : Heap 𝓤) (A : Atoms 𝓤) (W : Given
       qed W [] ∵ nothing ! $ nothing ! $ owned ! usize (Is usize) (uint-makes 𝓤 H A W w64) rm _ (refl, rm-fits) $ fjoin ! $ move ! (1 ∷ 0 ∷ []) $
       use2 W (raw (AtMost 𝓤 H A mem run .pre to-most)) (qed W (‵ ftrue ∷ ‵ (owns (usize ∷ []) (rm, tt) (vint w64 rm ∷ [], tt)) ∷ []) ∵ join ! $ frame ! $ done !) $ done !
 
-  most-said : (n : ℕ) → ent 𝓤 (ensured 𝓤 H A atmost.ended (atmost.clauses 𝓤 H A mem run) tt (rm, tt) tt n) (fact 𝓤 (n ≡ min rm many))
-  most-said n = exE 𝓤 _ (λ ws. snd∗ 𝓤 (sem 𝓤 H A (lasts atmost.ended tt (rm, tt) ws)) (fact 𝓤 (n ≡ min rm many)))
+  most-said : (n : ℕ) → ent 𝓤 (ensured 𝓤 H A atmost.ended (atmost.clauses 𝓤 H A mem run) tt (rm, tt) tt n) (fact 𝓤 (n ≡ min rm mostLent))
+  most-said n = exE 𝓤 _ (λ ws. snd∗ 𝓤 (sem 𝓤 H A (lasts atmost.ended tt (rm, tt) ws)) (fact 𝓤 (n ≡ min rm mostLent)))
 
   -- ---- the call of `fill_front`: the local at l₆ is lent for the lifetime ν, under the name δ, n of its records
   abbrev list : ℕ → GName → RefT (List LiveValue)
   list l₆ δ = record { ptr = (l₆, 0); name = δ; now = ys }
 
   abbrev s : ℕ → Val
-  s l₆ = sliceVal (l₆, 0) many
+  s l₆ = sliceVal (l₆, 0) mostLent
 
   abbrev κs : ℕ → Lfts 2
   κs ν = (ν ∷ [], (κ, tt))
@@ -143,8 +140,8 @@ module _ {M : Type 1} (𝓤 : URA M) (H : Heap 𝓤) (A : Atoms 𝓤) (W : Given
   abbrev to : ℕ → ℕ → GName → ℕ → Val → Front 𝓤 H A mem run .Ghost
   to l₆ ν δ n z = ((κs ν, (fullShare, (q, tt)), tt, args l₆ δ n, passed l₆ z), tt)
 
-  within : (n : ℕ) → n ≡ min rm many → n ≤ length ys
-  within n e = omega (arith, e, length-replicate many v)
+  within : (n : ℕ) → n ≡ min rm mostLent → n ≤ length ys
+  within n e = omega (arith, e, length-replicate mostLent v)
 
   goes : (l₆ ν : ℕ) (δ : GName) (n : ℕ) (z : Val) → n ≤ length ys
       → ent 𝓤 (⋆ 𝓤 H A ((‵ (flft (ν ∷ []) fullShare) ⊛ ‵ (flft κ q) ⊛ ‵ ftrue) ∷ ‵ (owns (MutSlice (named 0) (ν ∷ []) R ∷ ShrSlice (named 1) κ u8 ∷ usize ∷ usize ∷ []) (args l₆ δ n) (passed l₆ z)) ∷ [])) (Front 𝓤 H A mem run .pre (to l₆ ν δ n z))
@@ -154,14 +151,14 @@ module _ {M : Type 1} (𝓤 : URA M) (H : Heap 𝓤) (A : Atoms 𝓤) (W : Given
   abbrev Said : ℕ → Answer → List LiveValue → Type 0
   Said n r zs = (told r ≡ liveTold xs sg n) × (zs ≡ liveFront xs sg n ys)
 
-  lent-is : (n : ℕ) (r : Answer) (zs : List LiveValue) → n ≡ min rm many → Said n r zs → Said (min rm many) r zs
+  lent-is : (n : ℕ) (r : Answer) (zs : List LiveValue) → n ≡ min rm mostLent → Said n r zs → Said (min rm mostLent) r zs
   lent-is n r zs e d = (d .0 ∙ ap (liveTold xs sg) e, d .1 ∙ ap (λ (k : ℕ). liveFront xs sg k ys) e)
 
   -- the machine value of the result, of the answer's and the array's
   abbrev mach : Val → Val → Val
   mach u w = vstruct (vcons u (vcons w vnil))
 
-  exits : (r : Answer) (zs : List LiveValue) (u w : Val) → Said (min rm many) r zs → Is D₁.the-row (record { answer = r; values = zs }) (mach u w ∷ []) → ent 𝓤 (⋆ 𝓤 H A ((‵ (flft κ q) ⊛ ‵ ftrue) ∷ ‵ OwnX ∷ [])) (Post (mach u w))
+  exits : (r : Answer) (zs : List LiveValue) (u w : Val) → Said (min rm mostLent) r zs → Is D₁.the-row (record { answer = r; values = zs }) (mach u w ∷ []) → ent 𝓤 (⋆ 𝓤 H A ((‵ (flft κ q) ⊛ ‵ ftrue) ∷ ‵ OwnX ∷ [])) (Post (mach u w))
   exits r zs u w e is =
       qed W ((‵ (flft κ q) ⊛ ‵ ftrue) ∷ ‵ OwnX ∷ []) ∵
       suffices ! _ (ends-at 𝓤 H A values′.ended stayed (values′.clauses 𝓤 H A mem run) W (((κ, tt), (q, tt), tt, a, at), tt) (mach u w) (record { answer = r; values = zs }) (tt, (tt, (tt, (tt, tt)))) (tt, (tt, (tt, (tt, tt))))) $ says ! e $
@@ -179,17 +176,17 @@ module _ {M : Type 1} (𝓤 : URA M) (H : Heap 𝓤) (A : Atoms 𝓤) (W : Given
         use0 W (raw (AtMost 𝓤 H A mem run .pre to-most)) goes-most $
         calls-at ! fm (AtMost 𝓤 H A mem run) known-most to-most (and-then ! (load ! (from ! (stop !)) (look ! 15 refl)) (no-more !)) (λ z.
         use1 W (later (some (λ (n : ℕ). (‵ ftrue ⊛ ‵ (usize .own n (z ∷ []))) ⊛ raw (ensured 𝓤 H A atmost.ended (atmost.clauses 𝓤 H A mem run) tt (rm, tt) tt n)))) (id⊢ 𝓤 _) $ await ! tt $ pick ! (λ n.
-        split ! $ move ! (1 ∷ []) $ use1 W (raw (fact 𝓤 (n ≡ min rm many))) (most-said n) $ heard ! (n ≡ min rm many) (λ e₀. split ! $ drop ! $
+        split ! $ move ! (1 ∷ []) $ use1 W (raw (fact 𝓤 (n ≡ min rm mostLent))) (most-said n) $ heard ! (n ≡ min rm mostLent) (λ e₀. split ! $ drop ! $
         -- [the number; room for _10; …]
         peeks ! usize (Is usize) (shows 𝓤 H A usize) n (z ∷ []) (λ is₀.
         land ! (from ! (stop !)) (init ! 11 refl (uint-lawful 𝓤 H A W w64 .typed n _ is₀ .0)) $ drop ! $
-        assigns ! (rep ! many (load ! (from ! (stop !)) (look ! 12 refl))) (from ! (stop !)) (init ! 8 refl (array-typed ys (arrayVal (replicate many mv)) all-before)) $
+        assigns ! (rep ! mostLent (load ! (from ! (stop !)) (look ! 12 refl))) (from ! (stop !)) (init ! 8 refl (array-typed ys (arrayVal (replicate mostLent mv)) all-before)) $
         assigns ! (addr ! (from ! (stop !))) (from ! (stop !)) (init ! 4 refl (tt, tt)) $
         assigns ! (agg ! (and-then ! (load ! (from ! (stop !)) (look ! 4 refl)) (and-then ! (lit ! tt) (no-more !)))) (from ! (stop !)) (init ! 2 refl (tt, (tt, (record { fits = lit< tt }, tt)))) $
         -- the array is lent as a slice, for a lifetime ν of the call
         move ! (23 ∷ []) $ fsplit ! $ move ! (1 ∷ []) $ drop ! $ lft-new ! tt (λ ν. move ! (10 ∷ []) $
-        use1 W (later (some (λ (δ : GName). ‵ (MutSlice (named 0) (ν ∷ []) R .own (list l₆ δ) (s l₆ ∷ [])) ⊛ ‵ (flent (ν ∷ []) (Held R many l₆ 0 δ)))))
-        (lends-array R 𝓤 H A W (LL.makes T.the-type T′.the-plain 𝓤 H A) many l₆ (ν ∷ []) tt (named 0) ys (arrayVal (replicate many mv)) all-before (lit< tt, lit< tt)) $ await ! tt $ pick ! (λ δ. split ! $
+        use1 W (later (some (λ (δ : GName). ‵ (MutSlice (named 0) (ν ∷ []) R .own (list l₆ δ) (s l₆ ∷ [])) ⊛ ‵ (flent (ν ∷ []) (Held R mostLent l₆ 0 δ)))))
+        (lends-array R 𝓤 H A W (LL.makes T.the-type T′.the-plain 𝓤 H A) mostLent l₆ (ν ∷ []) tt (named 0) ys (arrayVal (replicate mostLent mv)) all-before (lit< tt, lit< tt)) $ await ! tt $ pick ! (λ δ. split ! $
         -- [the slice; the lender's part; ν's token; what x owns; room for _10; …; the token]
         move ! (2 ∷ 25 ∷ []) $ join ! $ move ! (3 ∷ []) $ use1 W (‵ OwnX ⊛ ‵ OwnX) (shr-slice-copy 𝓤 H A W (named 0) κ u8 .twice x (sx ∷ [])) $ split ! $
         nothing ! $ owned ! usize (Is usize) (uint-makes 𝓤 H A W w64) n _ is₀ $ fjoin ! $ owned ! usize (Is usize) (uint-makes 𝓤 H A W w64) sg _ (refl, sg-fits) $ fjoin ! $
@@ -205,7 +202,7 @@ module _ {M : Type 1} (𝓤 : URA M) (H : Heap 𝓤) (A : Atoms 𝓤) (W : Given
         land ! (from ! (stop !)) (init ! 12 refl (EL.lawful S.the-type S′.the-laws 𝓤 H A W tt .typed r _ is .0)) $
         -- the lifetime is ended, and the array comes back at that list
         move ! (1 ∷ []) $ split ! $ lft-end ! tt $ move ! (0 ∷ 6 ∷ 3 ∷ []) $
-        use3 W (later (some (λ (w : Val). given (Is (Array R many) (zs .0) (w ∷ [])) (‵ (fat fullShare (arrayTy R many) l₆ 0 w))))) (array-back R 𝓤 H A W (LL.makes T.the-type T′.the-plain 𝓤 H A) many l₆ (ν ∷ []) δ (zs .0)) $ await ! tt $ pick ! (λ w. learn ! (λ isA.
+        use3 W (later (some (λ (w : Val). given (Is (Array R mostLent) (zs .0) (w ∷ [])) (‵ (fat fullShare (arrayTy R mostLent) l₆ 0 w))))) (array-back R 𝓤 H A W (LL.makes T.the-type T′.the-plain 𝓤 H A) mostLent l₆ (ν ∷ []) δ (zs .0)) $ await ! tt $ pick ! (λ w. learn ! (λ isA.
         -- [_6; the token; the answer; …; what x owns; room for _10; …; _9; …; _8; …; _7; …; that _6 dies; _5; …; _4; …; _3; …; _2; …; _1; …; room for _0; …]
         assigns ! (of-opd ! (load ! (from ! (stop !)) (look ! 0 refl))) (from ! (stop !)) (init ! 5 refl (array-typed (zs .0) w isA)) $
         assigns ! (agg ! (and-then ! (load ! (from ! (stop !)) (look ! 11 refl)) (and-then ! (load ! (from ! (stop !)) (look ! 5 refl)) (no-more !)))) (from ! (stop !)) (init ! 24 refl (LL.lawful D₁.the-type D₁′.the-laws 𝓤 H A W .typed (record { answer = r; values = zs .0 }) _ (made r (zs .0) u w is isA) .0)) $
@@ -214,14 +211,14 @@ module _ {M : Type 1} (𝓤 : URA M) (H : Heap 𝓤) (A : Atoms 𝓤) (W : Given
         move ! (0 ∷ 13 ∷ []) $ free1 ! $ move ! (10 ∷ 11 ∷ []) $ free1 ! $ move ! (8 ∷ 9 ∷ []) $ free1 ! $ move ! (6 ∷ 7 ∷ []) $ free1 ! $ move ! (4 ∷ 5 ∷ []) $ free1 ! $ free0 ! $
         keep ! (0 ∷ 3 ∷ []) $ by ! (exits r (zs .0) u w (lent-is n r (zs .0) e₀ e) (made r (zs .0) u w is isA)))))))))))))))))))))))))))
       where
-        all-before : Is (Array R many) ys (arrayVal (replicate many mv) ∷ [])
-        all-before = repeats R many v mv v-is
+        all-before : Is (Array R mostLent) ys (arrayVal (replicate mostLent mv) ∷ [])
+        all-before = repeats R mostLent v mv v-is
 
-        array-typed : (zs : List LiveValue) (w : Val) → Is (Array R many) zs (w ∷ []) → Holds (hasTy (arrayTy R many) w) × WT w
-        array-typed zs w isA = array-lawful 𝓤 H A W R (LL.lawful T.the-type T′.the-laws 𝓤 H A W) many .typed zs (w ∷ []) isA .0
+        array-typed : (zs : List LiveValue) (w : Val) → Is (Array R mostLent) zs (w ∷ []) → Holds (hasTy (arrayTy R mostLent) w) × WT w
+        array-typed zs w isA = array-lawful 𝓤 H A W R (LL.lawful T.the-type T′.the-laws 𝓤 H A W) mostLent .typed zs (w ∷ []) isA .0
 
-        made : (r : Answer) (zs : List LiveValue) (u w : Val) → Is S.the-row r (u ∷ []) → Is (Array R many) zs (w ∷ []) → Is D₁.the-row (record { answer = r; values = zs }) (mach u w ∷ [])
-        made r zs u w is isA = ((u ∷ [], (w ∷ [], tt)), (refl, (is, (as-field T.the-type many zs (w ∷ []) isA, tt))))
+        made : (r : Answer) (zs : List LiveValue) (u w : Val) → Is S.the-row r (u ∷ []) → Is (Array R mostLent) zs (w ∷ []) → Is D₁.the-row (record { answer = r; values = zs }) (mach u w ∷ [])
+        made r zs u w is isA = ((u ∷ [], (w ∷ [], tt)), (refl, (is, (as-field T.the-type mostLent zs (w ∷ []) isA, tt))))
 
 module _ {M : Type 1} (𝓤 : URA M) (H : Heap 𝓤) (A : Atoms 𝓤) (W : Given 𝓤 H A) (mem : Memory → SProp 𝓤) (run : Routine → Fun 𝓤) where
   lent-walks : (C : Calls 𝓤 H) (Λ : Loops 𝓤 H) → FmC 𝓤 H (W .laws) C → Triple 𝓤 (C #lives·at-most) (AtMost 𝓤 H A mem run) → Triple 𝓤 (C #lives·fill-front) (Front 𝓤 H A mem run) → Walks 𝓤 H A values′.ended stayed (WpFn 𝓤 H C Λ code.function) (values′.clauses 𝓤 H A mem run)

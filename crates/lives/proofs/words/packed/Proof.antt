@@ -4,7 +4,8 @@ use Prim.Native.Nat.{ℕ, _*_, _-_, _≤_, _<_}
 use lib.ListN.{length, length-replicate}
 use native.Mathlib.Omega.{arith}
 use borrow.Author.Needs.{needs}
-use Rattle.lives.specs.Values.{mostValues, recordWords, recordIn, valueAt}
+use Rattle.rules.specs.Table.{mostValues}
+use Rattle.lives.specs.Values.{recordWords, recordIn, valueAt}
 use Rattle.lives.proofs.Packing.{one-more}
 use Rattle.lives.proofs.words.packed.Statement.{statement}
 use Rattle.lives.proofs.words.packed.Tie as tie
