@@ -29,10 +29,8 @@ pub fn new<'a>(table: &'a [u8]) -> Reader<'a>
 pub fn moved<'a>(reader: Reader<'a>, place: Cursor) -> Reader<'a>
     ensures { λ r. ⌜ r ≡ record { table = reader .entry .table; place = place } ⌝ }
 {
-    Reader {
-        table: reader.table,
-        place,
-    }
+    let table = reader.table;
+    Reader { table, place }
 }
 
 // Asked for the next task, after `count` tasks.
