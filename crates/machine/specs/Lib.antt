@@ -6,4 +6,3 @@ pub mod Simulates
 pub mod Started
 pub mod Load
 pub mod Gives
-pub mod Cases
