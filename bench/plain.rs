@@ -713,10 +713,19 @@ pub struct Machine {
     store: [u32; WORDS],
 }
 
-/// No branch, so that the loops over these become vector code.
-fn all_within(list: &[u16], limit: u16) -> bool {
-    list.iter()
-        .fold(true, |ok, &p| ok & ((p <= limit) | (p == NONE)))
+/// No branch, here and below, so that the loops over these become vector code.
+fn in_block(positions: &[u16]) -> bool {
+    positions
+        .iter()
+        .fold(true, |ok, &p| ok & (p < WORDS as u16))
+}
+
+/// Each is no access, or an index of the list of uses with so many uses from there on inside it.
+fn in_uses(firsts: &[u16], count: u32) -> bool {
+    let last = (MOST_USES as u32 - count.max(1)) as u16;
+    firsts
+        .iter()
+        .fold(true, |ok, &p| ok & ((p <= last) | (p == NONE)))
 }
 
 impl Machine {
@@ -731,10 +740,10 @@ impl Machine {
             counts: [0; MOST_TASKS],
             reads: [[NONE; MOST_SIGNALS]; MOST_TASKS],
             writes: [[NONE; MOST_SIGNALS]; MOST_TASKS],
-            uses: [NONE; MOST_USES],
+            uses: [0; MOST_USES],
             defaults: [0; MOST_SIGNALS],
-            carried: [NONE; MOST_SIGNALS],
-            held: [NONE; MOST_SIGNALS],
+            carried: [0; MOST_SIGNALS],
+            held: [0; MOST_SIGNALS],
             store: [0; WORDS],
         }
     }
@@ -794,19 +803,19 @@ impl Machine {
 
     fn is_fit(&self) -> bool {
         let firsts_fit = |firsts: &[[u16; MOST_SIGNALS]; MOST_TASKS]| {
-            firsts.iter().zip(self.counts).all(|(row, count)| {
-                count <= MOST_USES as u32 && all_within(row, (MOST_USES as u32 - count) as u16)
-            })
+            firsts
+                .iter()
+                .zip(self.counts)
+                .all(|(row, count)| count <= MOST_USES as u32 && in_uses(row, count))
         };
-        let last = WORDS as u16 - 1;
         self.loaded
             && (1..=LONGEST).contains(&self.hyper)
             && self.tick < self.hyper
             && firsts_fit(&self.reads)
             && firsts_fit(&self.writes)
-            && all_within(&self.uses, last)
-            && all_within(&self.carried, last)
-            && all_within(&self.held, last)
+            && in_block(&self.uses)
+            && in_block(&self.carried)
+            && in_block(&self.held)
     }
 
     /// The task's instance at this tick, if it is so far into its period that the test holds.
@@ -819,17 +828,18 @@ impl Machine {
         (i < self.counts[task]).then_some(i as usize)
     }
 
-    fn position(&self, first: u16, instance: usize) -> Option<usize> {
-        let position = *self.uses.get(first as usize + instance)?;
-        (position != NONE).then_some(position as usize)
+    /// A fit state has the use, and its position, inside their lists.
+    fn position(&self, first: u16, instance: usize) -> usize {
+        self.uses[first as usize + instance] as usize
     }
 
     fn publish(&mut self) {
         for task in 0..MOST_TASKS {
             if let Some(i) = self.instance(task, |into| into + 1 == self.ends[task]) {
                 for signal in 0..MOST_SIGNALS {
-                    if let Some(position) = self.position(self.writes[task][signal], i) {
-                        self.held[signal] = position as u16;
+                    let first = self.writes[task][signal];
+                    if first != NONE {
+                        self.held[signal] = self.position(first, i) as u16;
                     }
                 }
             }
@@ -840,10 +850,9 @@ impl Machine {
         for task in 0..MOST_TASKS {
             if let Some(i) = self.instance(task, |into| into == self.starts[task]) {
                 for signal in 0..MOST_SIGNALS {
-                    if let Some(position) = self.position(self.writes[task][signal], i) {
-                        if let Some(word) = self.store.get_mut(position) {
-                            *word = self.defaults[signal];
-                        }
+                    let first = self.writes[task][signal];
+                    if first != NONE {
+                        self.store[self.position(first, i)] = self.defaults[signal];
                     }
                 }
             }
@@ -852,14 +861,7 @@ impl Machine {
 
     fn carry(&mut self) {
         for signal in 0..MOST_SIGNALS {
-            let word = self
-                .store
-                .get(self.held[signal] as usize)
-                .copied()
-                .unwrap_or(0);
-            if let Some(carried) = self.store.get_mut(self.carried[signal] as usize) {
-                *carried = word;
-            }
+            self.store[self.carried[signal] as usize] = self.store[self.held[signal] as usize];
         }
         self.held = self.carried;
     }
@@ -879,13 +881,13 @@ impl Machine {
         Ok(())
     }
 
-    /// Where the task has the signal now; nowhere is none.
+    /// Where the task has the signal now.
     fn place(
         &self,
         firsts: &[[u16; MOST_SIGNALS]; MOST_TASKS],
         task: usize,
         signal: usize,
-    ) -> Result<Option<usize>, Refused> {
+    ) -> Result<usize, Refused> {
         if !self.is_fit() {
             return Err(Refused(25, 0));
         }
@@ -903,18 +905,13 @@ impl Machine {
 
     #[inline(never)]
     pub fn read(&self, task: usize, signal: usize) -> Result<u32, Refused> {
-        let place = self.place(&self.reads, task, signal)?;
-        Ok(place
-            .and_then(|position| self.store.get(position).copied())
-            .unwrap_or(0))
+        Ok(self.store[self.place(&self.reads, task, signal)?])
     }
 
     #[inline(never)]
     pub fn write(&mut self, task: usize, signal: usize, word: u32) -> Result<(), Refused> {
         let place = self.place(&self.writes, task, signal)?;
-        if let Some(stored) = place.and_then(|position| self.store.get_mut(position)) {
-            *stored = word;
-        }
+        self.store[place] = word;
         Ok(())
     }
 }

@@ -135,13 +135,24 @@ fn word_of(answer: Result<u32, plain::Refused>) -> (u8, u32) {
     }
 }
 
-/// One call on each, after which they are in the same state; at times a byte of both is spoiled first.
+/// A byte of both, or a number of two bytes, near the bounds of the lists that it may point into.
+fn spoil(dice: &mut Dice, one: &mut plain::Machine, other: &mut plain::Machine) {
+    let at = dice.below(one.bytes().len() - 1);
+    let (at, spoiled) = if dice.one_in(2) {
+        (at, vec![dice.of(&[0, 1, 15, 16, 255])])
+    } else {
+        let number: u16 = dice.of(&[0, 255, 256, 4095, 4096, u16::MAX]);
+        (at / 2 * 2, number.to_ne_bytes().to_vec())
+    };
+    for machine in [one, other] {
+        machine.bytes()[at..at + spoiled.len()].copy_from_slice(&spoiled);
+    }
+}
+
+/// One call on each, after which they are in the same state; at times both are spoiled first.
 fn same_call(dice: &mut Dice, one: &mut plain::Machine, other: &mut plain::Machine) -> u8 {
     if dice.one_in(40) {
-        let at = dice.below(one.bytes().len());
-        let byte = dice.of(&[0, 1, 15, 16, 255]);
-        one.bytes()[at] = byte;
-        other.bytes()[at] = byte;
+        spoil(dice, one, other);
     }
     let (task, signal) = (
         dice.of(&[0, 0, 1, 2, 3, 15, 16, usize::MAX]),

@@ -89,7 +89,9 @@ uint8_t press_live(const uint8_t *table, size_t table_length, size_t signal, str
 
 /*
  * The machine's state, as the library lays it out. It may be read; whatever else than the functions below writes it,
- * a state that is not fit answers 25 and nothing is read or written outside it.
+ * a state that is not fit answers 25 and nothing is read or written outside it. It is fit when it is marked as loaded,
+ * hyper is 1 to 10,000, tick is below hyper, no count is above PRESS_MOST_USES, each of reads and writes is 65535 or leads to
+ * uses that are all inside their list, and each number in uses, carried and held, used or not, is below PRESS_WORDS.
  */
 struct press_machine {
     bool loaded;

@@ -1,5 +1,5 @@
 -- Fit and unfit states: 25 exactly on the unfit ones, a fit state stays fit, a refusal leaves the state. Assumes nothing.
-use Prim.Native.Nat.{ℕ, _+_, _-_, _<_}
+use Prim.Native.Nat.{ℕ, _+_, _<_}
 use mathlib.Core.Path.{_≡_, refl}
 use mathlib.Core.Bool.{true}
 use mathlib.Core.List.{List}
@@ -11,8 +11,8 @@ use borrow.Author.Tests.{ltb-true, ltb-false, lt-ltb, le-leb, eqb-true, eqb-fals
 use Rattle.rules.specs.Words.{when}
 use Rattle.rules.specs.Table.{mostTasks, mostSignals, mostUses, words, longest}
 use Rattle.rules.specs.declared.Answer.{Answer}
-use Rattle.rows.specs.Fitness.{none, within, firstOf, positionsFit, fitParts}
-use Rattle.rows.specs.Rows.{useOf, publishOne, publications, atInstance, closingOf, save}
+use Rattle.rows.specs.Fitness.{inBlock, firstOf, positionsFit, fitParts}
+use Rattle.rows.specs.Rows.{lacks, useOf, publishOne, publications, atInstance, closingOf, save}
 use Rattle.rows.specs.declared.Instance.{Instance}
 use Rattle.rows.specs.declared.Place.{Place}
 use Rattle.rows.proofs.Folds.{acted-keeps}
@@ -25,23 +25,23 @@ use Rattle.machine.proofs.Steps.{InBounds, fit-keeps}
 
 -- ---- positions
 
--- each position of a list that fits is inside the store, or none; past the list stands 0
-pub position-fits : (ps : List ℕ) → positionsFit ps ≡ true → (k : ℕ) → within (words - 1) (getD ps k 0) ≡ true
+-- each position of a list that fits is inside the store; past the list stands 0
+pub position-fits : (ps : List ℕ) → positionsFit ps ≡ true → (k : ℕ) → inBlock (getD ps k 0) ≡ true
 unfolding positionsFit
 position-fits ps f k =
     split (ltb k (length ps))
-    (λ e. every-at (length ps) (λ j. within (words - 1) (getD ps j 0)) f k (ltb-true k (length ps) e))
+    (λ e. every-at (length ps) (λ j. inBlock (getD ps j 0)) f k (ltb-true k (length ps) e))
     (λ e. rw (List·getD-eq-default ps 0 (ltb-false k (length ps) e)))
 
-pub set-fits : (ps : List ℕ) (s p : ℕ) → positionsFit ps ≡ true → within (words - 1) p ≡ true → positionsFit (set ps s p) ≡ true
+pub set-fits : (ps : List ℕ) (s p : ℕ) → positionsFit ps ≡ true → inBlock p ≡ true → positionsFit (set ps s p) ≡ true
 unfolding positionsFit
 set-fits ps s p f w =
-    every-is (length (set ps s p)) (λ k. within (words - 1) (getD (set ps s p) k 0)) (λ k h.
+    every-is (length (set ps s p)) (λ k. inBlock (getD (set ps s p) k 0)) (λ k h.
     split (eqb k s)
     (λ e. rw (← eqb-true k s e, getD-set-same ps k p 0 (omega (arith, length-set ps s p))) w)
     (λ e. rw (getD-set-other ps s k p 0 (eqb-false k s e)) (position-fits ps f k)))
 
-use-fits : (firsts uses : List ℕ) (t i s : ℕ) → positionsFit uses ≡ true → within (words - 1) (useOf firsts uses t i s) ≡ true
+use-fits : (firsts uses : List ℕ) (t i s : ℕ) → positionsFit uses ≡ true → inBlock (useOf firsts uses t i s) ≡ true
 unfolding useOf
 use-fits firsts uses t i s f =
     split (ltb (firstOf firsts t s + i) mostUses)
@@ -51,7 +51,7 @@ use-fits firsts uses t i s f =
 publish-fits : (firsts uses : List ℕ) (t i s : ℕ) → positionsFit uses ≡ true → (held : List ℕ) → positionsFit held ≡ true → positionsFit (publishOne firsts uses t i s held) ≡ true
 unfolding publishOne
 publish-fits firsts uses t i s f held h =
-    split (eqb (useOf firsts uses t i s) none)
+    split (lacks firsts t s)
     (λ e. rw e h)
     (λ e. rw e (set-fits held s (useOf firsts uses t i s) h (use-fits firsts uses t i s f)))
 

@@ -3,7 +3,6 @@ use Prim.Native.Nat.{ℕ, zero, suc, _+_, _/_, _%_, _≤_, _<_}
 use mathlib.Core.Path.{_≡_, refl, sym, ap, _∙_}
 use mathlib.Core.Bool.{Bool, true, false, not, _&&_, cond}
 use mathlib.Core.List.{List, [], _∷_}
-use mathlib.Core.Option.{none}
 use native.Mathlib.Omega.{arith}
 use native.Mathlib.Numerals.{add-one}
 use lib.Dec.{leb, ltb, eqb}
@@ -13,7 +12,7 @@ use borrow.Author.Tests.{ltb-false, lt-ltb, le-ltb, lt-leb, le-leb, eq-eqb, ne-e
 use Rattle.rules.specs.Words.{when, highest, maybe}
 use Rattle.rules.specs.Windows.{Table, opens, closes, instance, isOpen, hyper, instances}
 use Rattle.rules.specs.Values.{carried, by, publisher, opensAt, IsValue}
-use Rattle.rules.specs.Table.{words, Fits, mostTasks, mostSignals, mostUses}
+use Rattle.rules.specs.Table.{words, Fits, mostTasks, mostSignals}
 use Rattle.rules.specs.Schedule.{Schedule, place, Passes}
 use Rattle.rules.specs.Machine.{State, stores}
 use Rattle.rules.specs.Machine as rules
@@ -23,9 +22,7 @@ use Rattle.theory.proofs.Time.{instance-lt}
 use Rattle.theory.proofs.Joins.{open-mod, opens-mod, closes-mod}
 use Rattle.theory.proofs.Stores.{place-lt, place-signal}
 use Rattle.rows.specs.Folds.{upTo}
-use Rattle.rows.specs.Fitness.{firstOf}
-use Rattle.rows.specs.Fitness as fitness
-use Rattle.rows.specs.Rows.{phaseOf, instanceIf, openingOf, closingOf, insideOf, load, save, useOf, publishOne, openOne, carryOne, atInstance, publications, openings, copies}
+use Rattle.rows.specs.Rows.{phaseOf, instanceIf, openingOf, closingOf, insideOf, load, save, lacks, useOf, publishOne, openOne, carryOne, atInstance, publications, openings, copies}
 use Rattle.rows.specs.declared.Instance.{Instance}
 use Rattle.rows.proofs.Folds.{acted-keeps, acted-same, acted-trim, acted-idle, acted-once, acted-seen, acted-swap}
 use Rattle.machine.specs.declared.Machine.{Machine}
@@ -80,14 +77,11 @@ save-inside : (l : List ℕ) (p w : ℕ) → p < words → save l p w ≡ set l 
 unfolding save
 save-inside l p w h = rw (lt-ltb p words h)
 
-save-none : (l : List ℕ) (w : ℕ) → save l fitness.none w ≡ l
-unfolding save
-save-none l w = refl
-
--- an access that is none has no use
-pub no-use : (firsts uses : List ℕ) (k i s : ℕ) → eqb (firstOf firsts k s) fitness.none ≡ true → useOf firsts uses k i s ≡ fitness.none
-unfolding useOf
-no-use firsts uses k i s e = rw (le-ltb (firstOf firsts k s + i) mostUses (omega (arith, eqb-true (firstOf firsts k s) fitness.none e)))
+-- a word copied onto itself
+save-same : (l : List ℕ) → save l 0 (load l 0) ≡ l
+unfolding load save
+save-same [] = refl
+save-same (x ∷ l) = refl
 
 -- two stores may change places, if they are in two places or store one word
 set-swap : (l : List ℕ) (i j a b : ℕ) → (i ≡ j → a ≡ b) → set (set l i a) j b ≡ set (set l j b) i a
@@ -122,15 +116,18 @@ module _ (tab : Table) (E : Schedule) (F : Fits tab) (A : Passes tab E) (st : St
   permitted : (allowed : ℕ → ℕ → Bool) (k s : ℕ) → k < tab .tasks → s < tab .signals → allowed s k ≡ true → permits tab allowed k s ≡ true
   permitted allowed k s h r e = and-is (and-is (lt-ltb k (tab .tasks) h) (lt-ltb s (tab .signals) r)) e
 
-  -- an access that is not permitted has no use
-  idle : (k i s : ℕ) → k < mostTasks → s < mostSignals → permits tab (tab .writes) k s ≡ false → useOf (m .writes) (m .uses) k i s ≡ fitness.none
-  idle k i s h r e = no-use (m .writes) (m .uses) k i s (R .writes .exact k s h r ∙ ap not e)
+  -- which accesses the state has
+  writes-it : (k s : ℕ) → k < tab .tasks → s < tab .signals → tab .writes s k ≡ true → lacks (m .writes) k s ≡ false
+  writes-it k s h r e = R .writes .exact k s (omega (arith, F .few-tasks)) (omega (arith, F .few-signals)) ∙ ap not (permitted (tab .writes) k s h r e)
 
-  unwritten : (k i s : ℕ) → k < mostTasks → s < mostSignals → tab .writes s k ≡ false → useOf (m .writes) (m .uses) k i s ≡ fitness.none
-  unwritten k i s h r e = idle k i s h r (rw e (split (ltb k (tab .tasks) && ltb s (tab .signals)) (λ q. rw q) (λ q. rw q)))
+  idle : (k s : ℕ) → k < mostTasks → s < mostSignals → permits tab (tab .writes) k s ≡ false → lacks (m .writes) k s ≡ true
+  idle k s h r e = R .writes .exact k s h r ∙ ap not e
 
-  no-signal : (k i s : ℕ) → k < mostTasks → s < mostSignals → tab .signals ≤ s → useOf (m .writes) (m .uses) k i s ≡ fitness.none
-  no-signal k i s h r e = idle k i s h r (rw (le-ltb s (tab .signals) e) (split (ltb k (tab .tasks)) (λ q. rw q) (λ q. rw q)))
+  unwritten : (k s : ℕ) → k < mostTasks → s < mostSignals → tab .writes s k ≡ false → lacks (m .writes) k s ≡ true
+  unwritten k s h r e = idle k s h r (rw e (split (ltb k (tab .tasks) && ltb s (tab .signals)) (λ q. rw q) (λ q. rw q)))
+
+  no-signal : (k s : ℕ) → k < mostTasks → s < mostSignals → tab .signals ≤ s → lacks (m .writes) k s ≡ true
+  no-signal k s h r e = idle k s h r (rw (le-ltb s (tab .signals) e) (split (ltb k (tab .tasks)) (λ q. rw q) (λ q. rw q)))
 
   value : (s k i : ℕ) → s < tab .signals → k < tab .tasks → tab .writes s k ≡ true → i < instances tab k → IsValue tab (by s k i)
   value s k i r h w l = (r, h, holds w, l)
@@ -155,8 +152,8 @@ module _ (tab : Table) (E : Schedule) (F : Fits tab) (A : Passes tab E) (st : St
         split (tab .writes s k)
         (λ w.
         let i = instance-lt tab F k t h l in
-        rw (written s k (instance tab k t) a h w i, R .defaults s a, w, o) (save-inside r (place E (by s k (instance tab k t))) (tab .default s) (place-lt tab E A (by s k (instance tab k t)) (value s k (instance tab k t) a h w i))))
-        (λ w. rw (unwritten k (instance tab k t) s (omega (arith, F .few-tasks)) (omega (arith, F .few-signals)) w, w) (save-none r (getD (m .defaults) s 0)))
+        rw (writes-it k s h a w, written s k (instance tab k t) a h w i, R .defaults s a, w, o) (save-inside r (place E (by s k (instance tab k t))) (tab .default s) (place-lt tab E A (by s k (instance tab k t)) (value s k (instance tab k t) a h w i))))
+        (λ w. rw (unwritten k s (omega (arith, F .few-tasks)) (omega (arith, F .few-signals)) w, w))
 
     -- a task that opens sets the elements of all its signals
     open-row : (k : ℕ) → k < tab .tasks → (r : List ℕ)
@@ -166,7 +163,7 @@ module _ (tab : Table) (E : Schedule) (F : Fits tab) (A : Passes tab E) (st : St
         split (eqb (opens tab k (instance tab k t)) t)
         (λ o. rw o (
         acted-trim (openOne (m .writes) (m .uses) (m .defaults) k (instance tab k t)) (tab .signals) mostSignals (F .few-signals)
-        (λ s a b q. rw (no-signal k (instance tab k t) s (omega (arith, F .few-tasks)) b a) (save-none q (getD (m .defaults) s 0))) r
+        (λ s a b q. rw (no-signal k s (omega (arith, F .few-tasks)) b a)) r
         ∙ acted-same (openOne (m .writes) (m .uses) (m .defaults) k (instance tab k t)) (λ s. sets s k) (tab .signals) (λ s a q. open-one s k a h o q) r))
         (λ o. rw o (sym (acted-idle (λ s. sets s k) (tab .signals) (λ s a q. rw o (split (tab .writes s k) (λ w. rw w) (λ w. rw w))) r)))
 
@@ -222,18 +219,16 @@ module _ (tab : Table) (E : Schedule) (F : Fits tab) (A : Passes tab E) (st : St
         let v = place E (by s k i) in
         split (eqb r s)
         (λ x. let z = eqb-true r s x in rw z (split (tab .writes s k)
-        (λ w.
-        let p = place-lt tab E A (by s k i) (value s k i a h w j) in
-        rw (written s k i a h w j, w, eq-eqb s s refl, ne-eqb v fitness.none (λ n. omega arith)) (getD-set-same q s v 0 (omega (arith, F .few-signals))))
-        (λ w. rw (unwritten k i s (omega (arith, F .few-tasks)) (omega (arith, F .few-signals)) w, w, eq-eqb s s refl))))
-        (λ x. rw x (split (eqb (useOf (m .writes) (m .uses) k i r) fitness.none)
+        (λ w. rw (writes-it k s h a w, written s k i a h w j, w, eq-eqb s s refl) (getD-set-same q s v 0 (omega (arith, F .few-signals))))
+        (λ w. rw (unwritten k s (omega (arith, F .few-tasks)) (omega (arith, F .few-signals)) w, w, eq-eqb s s refl))))
+        (λ x. rw x (split (lacks (m .writes) k r)
         (λ y. rw y)
         (λ y. rw y (getD-set-other q r s (useOf (m .writes) (m .uses) k i r) 0 (λ z. eqb-false r s x (sym z))))))
 
     publish-length : (k i r : ℕ) (q : List ℕ) → length q ≡ mostSignals → length (publishOne (m .writes) (m .uses) k i r q) ≡ mostSignals
     unfolding publishOne
     publish-length k i r q e =
-        split (eqb (useOf (m .writes) (m .uses) k i r) fitness.none) (λ y. rw y e) (λ y. rw (y, length-set q r (useOf (m .writes) (m .uses) k i r)) e)
+        split (lacks (m .writes) k r) (λ y. rw y e) (λ y. rw (y, length-set q r (useOf (m .writes) (m .uses) k i r)) e)
 
     row-length : (k : ℕ) (o : Instance) (q : List ℕ) → length q ≡ mostSignals → length (atInstance (publishOne (m .writes) (m .uses) k) o q) ≡ mostSignals
     row-length k (Instance.At i) q e = acted-keeps (λ p. length p ≡ mostSignals) (publishOne (m .writes) (m .uses) k i) mostSignals (λ r b p x. publish-length k i r p x) q e
@@ -271,6 +266,22 @@ module _ (tab : Table) (E : Schedule) (F : Fits tab) (A : Passes tab E) (st : St
     unfolding closed publications
     closed-length = acted-keeps (λ p. length p ≡ mostSignals) _ mostTasks (λ k b q e. row-length k (ending m k) q e) (m .held) (R .held-size)
 
+    -- nothing is held of a signal that does not exist
+    publish-none : (s k i r : ℕ) → tab .signals ≤ s → k < mostTasks → r < mostSignals → (q : List ℕ) → getD q s 0 ≡ 0 → getD (publishOne (m .writes) (m .uses) k i r q) s 0 ≡ 0
+    unfolding publishOne
+    publish-none s k i r a h b q e =
+        split (eqb s r)
+        (λ x. let z = eqb-true s r x in rw (no-signal k r h b (omega arith)) e)
+        (λ x. split (lacks (m .writes) k r) (λ y. rw y e) (λ y. rw y (getD-set-other q r s (useOf (m .writes) (m .uses) k i r) 0 (eqb-false s r x) ∙ e)))
+
+    row-none : (s k : ℕ) → tab .signals ≤ s → k < mostTasks → (o : Instance) (q : List ℕ) → getD q s 0 ≡ 0 → getD (atInstance (publishOne (m .writes) (m .uses) k) o q) s 0 ≡ 0
+    row-none s k a h (Instance.At i) q e = acted-keeps (λ p. getD p s 0 ≡ 0) (publishOne (m .writes) (m .uses) k i) mostSignals (λ r b p x. publish-none s k i r a h b p x) q e
+    row-none s k a h Instance.Nothing q e = e
+
+    pub closed-none : (s : ℕ) → tab .signals ≤ s → getD (closed m) s 0 ≡ 0
+    unfolding closed publications
+    closed-none s a = acted-keeps (λ p. getD p s 0 ≡ 0) _ mostTasks (λ k b q e. row-none s k a b (ending m k) q e) (m .held) (R .none-held s a)
+
     -- ---- copies at H
 
     pub copied-length : (n : ℕ) → length (rules.copied tab E st n) ≡ words
@@ -288,5 +299,5 @@ module _ (tab : Table) (E : Schedule) (F : Fits tab) (A : Passes tab E) (st : St
     pub copies-is : copies (m .carried) (closed m) (m .store) ≡ rules.copied tab E st (tab .signals)
     unfolding copies carryOne
     copies-is =
-        acted-trim (carryOne (m .carried) (closed m)) (tab .signals) mostSignals (F .few-signals) (λ s a b q. rw (R .no-signal s a b) (save-none q (load q (getD (closed m) s 0)))) (m .store)
+        acted-trim (carryOne (m .carried) (closed m)) (tab .signals) mostSignals (F .few-signals) (λ s a b q. rw (R .none-carried s a, closed-none s a) (save-same q)) (m .store)
         ∙ copies-act (tab .signals) (omega arith)

@@ -51,7 +51,7 @@ module _ (f : ℕ → ℕ) (n size z : ℕ) (room : n ≤ size) where
       ap length (sym (stores-acts n (λ j. true) (λ j. j) f (replicate size z))) ∙ stores-length (λ j. true) (λ j. j) f (replicate size z) n ∙ length-replicate size z
 
 -- a list of one number has it everywhere, if it stands past the end too
-alike : (n k z : ℕ) → getD (replicate n z) k z ≡ z
+pub alike : (n k z : ℕ) → getD (replicate n z) k z ≡ z
 alike n k z =
     split (ltb k n)
     (λ e. getD-replicate n k z z (ltb-true k n e))
@@ -214,18 +214,18 @@ module _ (g : Given) (C : Checked g) where
       ∙ stores-length (λ j. true) (λ j. U r + j) (λ j. b + elementIn schedule r (U r + j)) l n ∙ e
 
   pub use-at : (s x : ℕ) → s < signals .count → U s ≤ x → x < U s + signalUses grid cs (tasks .count) s
-      → getD (upTo (signals .count) (usesIn grid cs schedule (tasks .count)) (replicate mostUses none)) x 0 ≡ base E s + elementIn schedule s x
+      → getD (upTo (signals .count) (usesIn grid cs schedule (tasks .count)) (replicate mostUses 0)) x 0 ≡ base E s + elementIn schedule s x
   use-at s x h lo hi =
       let n = signalUses grid cs (tasks .count) in
       let up = used-up grid cs schedule (tasks .count) in
       let next = used-next grid cs schedule (tasks .count) in
       let small : x < mostUses = omega (arith, next s, up (signals .count) (s + 1) (omega arith), all-used, C .fits .few-uses) in
       acted-seen (λ l. length l ≡ mostUses) (λ l. getD l x 0) (usesIn grid cs schedule (tasks .count)) turn (signals .count)
-      (λ r b l e. (use-length r l e, use-one r x small l e)) (replicate mostUses none) (length-replicate mostUses none)
+      (λ r b l e. (use-length r l e, use-one r x small l e)) (replicate mostUses 0) (length-replicate {A = ℕ} mostUses 0)
       ∙ acted-once turn (signals .count) s h (λ r b d y. split (ltb r s)
       (λ q. rw (le-ltb x (U r + n r) (omega (arith, next r, up s (r + 1) (omega (arith, ltb-true r s q))))) (split (leb (U r) x) (λ t. rw t) (λ t. rw t)))
       (λ q. rw (lt-leb (U r) x (omega (arith, next s, up r (s + 1) (omega (arith, ltb-false r s q)))))))
-      (getD (replicate mostUses none) x 0)
+      (getD (replicate mostUses 0) x 0)
       ∙ rw (le-leb (U s) x lo, lt-ltb x (U s + n s) hi, base-is s)
     where
       turn : ℕ → ℕ → ℕ
@@ -248,8 +248,8 @@ module _ (tasks : Tasks) (signals : Signals) (grid : Grid) (hyper : ℕ) (schedu
       × (counts ≡ upTo (tasks .count) (countsOf tasks hyper) (replicate mostTasks 0))
       → (writes ≡ upTo (signals .count) (writesOf grid counts (tasks .count)) (replicate (mostTasks * mostSignals) none))
       × (reads ≡ upTo (signals .count) (readsOf grid counts (tasks .count)) (replicate (mostTasks * mostSignals) none))
-      × (uses ≡ upTo (signals .count) (usesIn grid counts schedule (tasks .count)) (replicate mostUses none))
-      × (carried ≡ upTo (signals .count) (carriedIn grid counts schedule (tasks .count)) (replicate mostSignals none))
+      × (uses ≡ upTo (signals .count) (usesIn grid counts schedule (tasks .count)) (replicate mostUses 0))
+      × (carried ≡ upTo (signals .count) (carriedIn grid counts schedule (tasks .count)) (replicate mostSignals 0))
       × (store ≡ upTo (signals .count) (storeIn grid counts schedule (tasks .count) (signals .defaults)) (replicate words 0))
       → out ≡ openings periods starts counts writes uses (signals .defaults) 0 store
       → _≡_ {A = Machine} (record { loaded = true; hyper = hyper; tick = 0; periods = periods; starts = starts; ends = ends; counts = counts; reads = reads; writes = writes; uses = uses; defaults = signals .defaults; carried = carried; held = carried; store = out }) (started (given tasks signals grid hyper schedule))

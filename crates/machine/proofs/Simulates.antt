@@ -1,5 +1,5 @@
 -- The code's calls follow document 01's machine. Assumes nothing.
-use Prim.Native.Nat.{ℕ, suc, _+_, _<_}
+use Prim.Native.Nat.{ℕ, suc, _+_, _≤_, _<_}
 use mathlib.Core.Path.{_≡_, refl, sym, ap, ap₂, _∙_}
 use mathlib.Core.Bool.{Bool, true, not, _&&_, cond}
 use mathlib.Core.List.{List, [], _∷_}
@@ -29,7 +29,7 @@ use Rattle.machine.specs.Calls.{fit, at, closed, opened, moved, found, r
 use Rattle.machine.specs.Simulates.{permits, Accesses, Runs, outcomeSaid, callSaid, callsSaid, callLeaves, Simulates, SimulatesAll}
 use Rattle.machine.proofs.Steps.{fit-keeps}
 use Rattle.machine.proofs.Fit.{at-fits, closed-fits}
-use Rattle.machine.proofs.Follows.{inside-is, opened-is, closed-is, closed-length, copied-length, copies-is, load-is, save-is}
+use Rattle.machine.proofs.Follows.{inside-is, opened-is, closed-is, closed-none, closed-length, copied-length, copies-is, load-is, save-is}
 
 -- a place that is refused with a number
 abbrev refusedPlace : ℕ → Place
@@ -41,9 +41,10 @@ module _ (tab : Table) (E : Schedule) (F : Fits tab) (A : Passes tab E) (st : St
 
   -- the state at another tick, with what is held and stored then
   pub runs-at : (next : State) (tick : ℕ) (held store : List ℕ) → fit (at m tick held store) ≡ true → tick ≡ next .tick
-      → ((s : ℕ) → s < tab .signals → getD held s 0 ≡ getD (next .last) s 0) → length held ≡ mostSignals → store ≡ next .block → length (next .block) ≡ words
+      → ((s : ℕ) → s < tab .signals → getD held s 0 ≡ getD (next .last) s 0) → ((s : ℕ) → tab .signals ≤ s → getD held s 0 ≡ 0) → length held ≡ mostSignals
+      → store ≡ next .block → length (next .block) ≡ words
       → Runs tab E next (at m tick held store)
-  runs-at next tick held store f t h n s z =
+  runs-at next tick held store f t h o n s z =
       record {
         fits = f;
         hyper = R .hyper;
@@ -57,9 +58,10 @@ module _ (tab : Table) (E : Schedule) (F : Fits tab) (A : Passes tab E) (st : St
         writes = R .writes;
         defaults = R .defaults;
         carried = R .carried;
-        no-signal = R .no-signal;
+        none-carried = R .none-carried;
         carried-size = R .carried-size;
         held = h;
+        none-held = o;
         held-size = n;
         store = s;
         store-size = z;
@@ -84,6 +86,7 @@ module _ (tab : Table) (E : Schedule) (F : Fits tab) (A : Passes tab E) (st : St
       (at-fits m K (m .tick + 1) (closed m) (opened m (m .tick + 1) (m .store)) (omega (arith, R .tick, R .hyper)) (closed-fits m K))
       next-tick
       (λ s a. closed-is tab E F A st m R inside s a ∙ sym (getD-each (tab .signals) (rules.closed tab E st) s a))
+      (closed-none tab E F A st m R inside)
       (closed-length tab E F A st m R inside)
       (ap₂ (opened m) next-tick (R .store) ∙ opened-is tab E F A st m R (suc (st .tick)) t (st .block))
       (openings-length tab E (suc (st .tick)) (tab .signals) (st .block) ∙ R .store-size)))
@@ -93,6 +96,7 @@ module _ (tab : Table) (E : Schedule) (F : Fits tab) (A : Passes tab E) (st : St
       (at-fits m K 0 (m .carried) _ (K .positive) (K .carried))
       refl
       (λ s a. R .carried s a ∙ sym (getD-each (tab .signals) (λ s. place E (carried s)) s a))
+      (R .none-carried)
       (R .carried-size)
       (ap (opened m 0) (copies-is tab E F A st m R inside) ∙ opened-is tab E F A st m R 0 (hyper-pos tab F) block)
       (openings-length tab E 0 (tab .signals) block ∙ copied-length tab E F A st m R inside (tab .signals))))
@@ -156,7 +160,7 @@ module _ (tab : Table) (E : Schedule) (F : Fits tab) (A : Passes tab E) (st : St
   runs-stored k s w =
       let K = fit-keeps m (R .fits) in
       let p = place E (by s k (instance tab k (st .tick))) in
-      runs-at (rules.stored tab E st s k w) (m .tick) (m .held) (save (m .store) p w) (at-fits m K (m .tick) (m .held) (save (m .store) p w) (K .below) (K .held)) (R .tick) (R .held) (R .held-size)
+      runs-at (rules.stored tab E st s k w) (m .tick) (m .held) (save (m .store) p w) (at-fits m K (m .tick) (m .held) (save (m .store) p w) (K .below) (K .held)) (R .tick) (R .held) (R .none-held) (R .held-size)
       (ap (λ l. save l p w) (R .store) ∙ save-is (st .block) p w (R .store-size)) (length-set (st .block) p w ∙ R .store-size)
 
   runs-written : (k s w : ℕ) → Runs tab E (after tab E st (write k s w)) (writeOf m k s w .machine)

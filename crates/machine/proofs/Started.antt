@@ -1,11 +1,11 @@
 -- A loading that the check accepts starts document 01's machine. Assumes nothing.
 use Prim.Native.Nat.{ℕ, _+_, _-_, _*_, _≤_, _<_}
 use mathlib.Core.Path.{_≡_, refl, sym, ap, _∙_}
-use mathlib.Core.Bool.{Bool, true, false, _&&_, cond}
+use mathlib.Core.Bool.{Bool, true, false, _&&_, _||_, cond}
 use mathlib.Core.List.{List, map}
 use native.Mathlib.Omega.{arith}
-use lib.Dec.{leb, ltb, eqb}
-use lib.ListN.{length, getD, replicate, length-replicate, getD-replicate}
+use lib.Dec.{ltb, eqb}
+use lib.ListN.{length, getD, replicate}
 use borrow.Author.Tests.{ltb-true, ltb-false, lt-ltb, le-leb, ne-eqb}
 use Rattle.rules.specs.Words.{total, times}
 use Rattle.rules.specs.Windows.{Table, instances, opens, hyper}
@@ -20,7 +20,7 @@ use Rattle.rules.specs.declared.Signals.{Signals}
 use Rattle.theory.proofs.Tests.{split, both, and-is, or-right, not-both, holds, is}
 use Rattle.theory.proofs.Check.{every-is}
 use Rattle.theory.proofs.Hyper.{hyper-pos}
-use Rattle.theory.proofs.Time.{closes-le}
+use Rattle.theory.proofs.Time.{closes-le, instance-lt}
 use Rattle.theory.proofs.Bound.{bound-value, bound-signal}
 use Rattle.theory.proofs.Laid.{bytes-length}
 use Rattle.theory.proofs.Proved.{answers-as-meant}
@@ -28,7 +28,7 @@ use Rattle.theory.proofs.Checked.{check-sound}
 use Rattle.theory.proofs.Stores.{getD-each, place-lt, filled-length}
 use Rattle.theory.proofs.Kept.{openings-length}
 use Rattle.rows.specs.Folds.{upTo}
-use Rattle.rows.specs.Fitness.{none, within, firstOf, positionsFit, rowFits, gridFits, fitParts}
+use Rattle.rows.specs.Fitness.{none, inUses, firstOf, positionsFit, rowFits, gridFits, fitParts}
 use Rattle.rows.specs.Rows.{useOf}
 use Rattle.rows.proofs.Folds.{acted-keeps}
 use Rattle.loading.specs.Lists.{permits, usesOf, elementIn, placeAccesses, placeUses, signalUses, baseBefore, writesOf, readsOf, usesIn, carriedIn}
@@ -42,7 +42,7 @@ use Rattle.machine.proofs.Steps.{fit-keeps}
 use Rattle.machine.proofs.Fit.{set-fits, at-fits}
 use Rattle.machine.proofs.Follows.{opened-is}
 use Rattle.machine.proofs.Simulates.{runs-at, simulates-all}
-use Rattle.machine.proofs.Listed.{set-at, set-past, set-length, used, count-of, count-none, writers-of, readers-of, reads-is, all-used, base-is, writer-is, reader-is, first-at, use-at, filled-is}
+use Rattle.machine.proofs.Listed.{alike, set-at, set-past, set-length, used, count-of, count-none, writers-of, readers-of, reads-is, all-used, base-is, writer-is, reader-is, first-at, use-at, filled-is}
 
 -- what is needed of the accesses of one kind: where those to signal s begin, and which element each use has
 pub record Kind (g : Given) (kind : ℕ) (first : ℕ → ℕ) (allowed : ℕ → ℕ → Bool) (element : ℕ → ℕ → ℕ → ℕ) : Type 0 where
@@ -74,7 +74,7 @@ module _ (g : Given) (C : Checked g) where
   many = signalUses grid cs (tasks .count)
 
   abbrev useList : List ℕ
-  useList = upTo (signals .count) (usesIn grid cs schedule (tasks .count)) (replicate mostUses none)
+  useList = upTo (signals .count) (usesIn grid cs schedule (tasks .count)) (replicate mostUses 0)
 
   -- a signal's uses end inside the list
   ends : (s : ℕ) → s < signals .count → U s + many s ≤ mostUses
@@ -141,10 +141,13 @@ module _ (g : Given) (C : Checked g) where
             (λ x. let h = ltb-true k (tasks .count) x in omega (arith, count-of g C k h, total-has (instances T) (tasks .count) k h, F .few-instances))
             (λ x. omega (arith, count-none g C k (ltb-false k (tasks .count) x)))
 
-        room : (k s : ℕ) → k < mostTasks → s < mostSignals → within (mostUses - getD cs k 0) (firstOf firsts k s) ≡ true
+        room : (k s : ℕ) → k < mostTasks → s < mostSignals → (eqb (firstOf firsts k s) none || inUses (getD cs k 0) (firstOf firsts k s)) ≡ true
         room k s h a = split (simulates.permits T allowed k s)
             (λ p. let (x, y, w, b) = cell-there k s p in
-            rw b (or-right (eqb (begins k s) none) (leb (begins k s) (mostUses - getD cs k 0)) (le-leb (begins k s) (mostUses - getD cs k 0) (omega (arith, end-of k s x w, ends s y)))))
+            let some : 0 < getD cs k 0 = omega (arith, count-of g C k x, instance-lt T F k 0 x (hyper-pos T F)) in
+            let end = end-of k s x w in
+            rw b (or-right (eqb (begins k s) none) (inUses (getD cs k 0) (begins k s))
+            (and-is (lt-ltb (begins k s) mostUses (omega (arith, ends s y))) (le-leb (begins k s + getD cs k 0) mostUses (omega (arith, ends s y))))))
             (λ p. rw (cell-none k s h a p))
 
     -- each use of a signal is one of an instance, so inside the store if those are
@@ -185,12 +188,9 @@ module _ (g : Given) (C : Checked g) where
 
   -- ---- positions
 
-  none-fit : (size : ℕ) → positionsFit (replicate size none) ≡ true
+  unused-fit : (size : ℕ) → positionsFit (replicate size 0) ≡ true
   unfolding positionsFit
-  none-fit size = every-is (length (replicate size none)) _ (λ k h. rw (getD-replicate size k none 0 (omega (arith, length-replicate size none))))
-
-  inside-fits : (p : ℕ) → p < words → within (words - 1) p ≡ true
-  inside-fits p h = or-right (eqb p none) (leb p (words - 1)) (le-leb p (words - 1) (omega arith))
+  unused-fit size = every-is (length (replicate size 0)) _ (λ k h. rw (alike size k 0))
 
   module _ (A : Passes T E) where
     written-inside : (s k i : ℕ) → s < signals .count → k < tasks .count → T .writes s k ≡ true → i < instances T k → base E s + E .writer s k i < words
@@ -220,8 +220,8 @@ module _ (g : Given) (C : Checked g) where
     uses-fit =
         acted-keeps (λ l. positionsFit l ≡ true) (usesIn grid cs schedule (tasks .count)) (signals .count)
         (λ s h l f. acted-keeps (λ l. positionsFit l ≡ true) _ (many s)
-        (λ j a q x. set-fits q (U s + j) _ x (inside-fits (baseBefore grid cs schedule (tasks .count) s + elementIn schedule s (U s + j)) (rw (base-is g C s) (use-inside s j h a)))) l f)
-        (replicate mostUses none) (none-fit mostUses)
+        (λ j a q x. set-fits q (U s + j) _ x (lt-ltb (baseBefore grid cs schedule (tasks .count) s + elementIn schedule s (U s + j)) words (rw (base-is g C s) (use-inside s j h a)))) l f)
+        (replicate mostUses 0) (unused-fit mostUses)
 
     carried-inside : (s : ℕ) → s < signals .count → base E s < words
     unfolding place
@@ -231,20 +231,20 @@ module _ (g : Given) (C : Checked g) where
     unfolding bases carriedIn
     bases-fit =
         acted-keeps (λ l. positionsFit l ≡ true) _ (signals .count)
-        (λ s h l f. set-fits l s _ f (inside-fits (baseBefore grid cs schedule (tasks .count) s) (rw (base-is g C s) (carried-inside s h)))) (replicate mostSignals none) (none-fit mostSignals)
+        (λ s h l f. set-fits l s _ f (lt-ltb (baseBefore grid cs schedule (tasks .count) s) words (rw (base-is g C s) (carried-inside s h)))) (replicate mostSignals 0) (unused-fit mostSignals)
 
     base-at : (s : ℕ) → s < signals .count → getD (bases g) s 0 ≡ place E (carried s)
     unfolding bases carriedIn place
     base-at s h =
-        set-at (baseBefore grid cs schedule (tasks .count)) (signals .count) mostSignals none (F .few-signals) s h ∙ base-is g C s ∙ omega arith
+        set-at (baseBefore grid cs schedule (tasks .count)) (signals .count) mostSignals 0 (F .few-signals) s h ∙ base-is g C s ∙ omega arith
 
-    base-none : (s : ℕ) → signals .count ≤ s → s < mostSignals → getD (bases g) s 0 ≡ none
+    base-none : (s : ℕ) → signals .count ≤ s → getD (bases g) s 0 ≡ 0
     unfolding bases carriedIn
-    base-none s h l = set-past (baseBefore grid cs schedule (tasks .count)) (signals .count) mostSignals none (F .few-signals) s h ∙ getD-replicate mostSignals s none 0 l
+    base-none s h = set-past (baseBefore grid cs schedule (tasks .count)) (signals .count) mostSignals 0 (F .few-signals) s h ∙ alike mostSignals s 0
 
     bases-length : length (bases g) ≡ mostSignals
     unfolding bases carriedIn
-    bases-length = set-length (baseBefore grid cs schedule (tasks .count)) (signals .count) mostSignals none (F .few-signals)
+    bases-length = set-length (baseBefore grid cs schedule (tasks .count)) (signals .count) mostSignals 0 (F .few-signals)
 
     -- ---- the state
 
@@ -282,9 +282,10 @@ module _ (g : Given) (C : Checked g) where
           writes = accesses-are 2 U (T .writes) (E .writer) writers;
           defaults = λ s h. refl;
           carried = base-at;
-          no-signal = base-none;
+          none-carried = base-none;
           carried-size = bases-length;
           held = λ s h. base-at s h ∙ sym (getD-each (signals .count) (λ s. place E (carried s)) s h);
+          none-held = base-none;
           held-size = bases-length;
           store = filled-is g C (signals .count);
           store-size = filled-length T E A (signals .count);
@@ -295,7 +296,7 @@ module _ (g : Given) (C : Checked g) where
     runs-started =
         let K = fit-keeps m laid-fits in
         runs-at T E F A before m runs-laid (loaded T E) 0 (m .held) (opened m 0 (m .store)) (at-fits m K 0 (m .held) (opened m 0 (m .store)) positive bases-fit) refl
-        (runs-laid .held) bases-length
+        (runs-laid .held) base-none bases-length
         (ap (opened m 0) (runs-laid .store) ∙ opened-is T E F A before m runs-laid 0 (hyper-pos T F) (filled T E (signals .count)))
         (openings-length T E 0 (signals .count) (filled T E (signals .count)) ∙ filled-length T E A (signals .count))
 

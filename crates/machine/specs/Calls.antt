@@ -26,10 +26,10 @@ unloaded = record {
   counts = replicate mostTasks 0;
   reads = replicate (mostTasks * mostSignals) none;
   writes = replicate (mostTasks * mostSignals) none;
-  uses = replicate mostUses none;
+  uses = replicate mostUses 0;
   defaults = replicate mostSignals 0;
-  carried = replicate mostSignals none;
-  held = replicate mostSignals none;
+  carried = replicate mostSignals 0;
+  held = replicate mostSignals 0;
   store = replicate words 0;
 }
 

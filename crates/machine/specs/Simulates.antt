@@ -41,9 +41,10 @@ pub record Runs (tab : Table) (E : Schedule) (st : State) (m : Machine) : Type 0
   pub writes : Accesses tab (tab .writes) (λ s k i. place E (by s k i)) (m .writes) (m .uses)
   pub defaults : (s : ℕ) → s < tab .signals → getD (m .defaults) s 0 ≡ tab .default s
   pub carried : (s : ℕ) → s < tab .signals → getD (m .carried) s 0 ≡ place E (carried s)
-  pub no-signal : (s : ℕ) → tab .signals ≤ s → s < mostSignals → getD (m .carried) s 0 ≡ none
+  pub none-carried : (s : ℕ) → tab .signals ≤ s → getD (m .carried) s 0 ≡ 0
   pub carried-size : length (m .carried) ≡ mostSignals
   pub held : (s : ℕ) → s < tab .signals → getD (m .held) s 0 ≡ getD (st .last) s 0
+  pub none-held : (s : ℕ) → tab .signals ≤ s → getD (m .held) s 0 ≡ 0
   pub held-size : length (m .held) ≡ mostSignals
   pub store : m .store ≡ st .block
   pub store-size : length (st .block) ≡ words

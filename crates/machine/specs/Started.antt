@@ -46,7 +46,7 @@ module _ (g : Given) where
 
   -- where each signal's element 0 stands
   unfoldable pub bases : List ℕ
-  bases = upTo (g .signals .count) (carriedIn (g .grid) counted (g .schedule) (g .tasks .count)) (replicate mostSignals none)
+  bases = upTo (g .signals .count) (carriedIn (g .grid) counted (g .schedule) (g .tasks .count)) (replicate mostSignals 0)
 
   -- all lists, before tick 0 opens
   unfoldable pub laid : Machine
@@ -60,7 +60,7 @@ module _ (g : Given) where
     counts = counted;
     reads = upTo (g .signals .count) (readsOf (g .grid) counted (g .tasks .count)) (replicate (mostTasks * mostSignals) none);
     writes = upTo (g .signals .count) (writesOf (g .grid) counted (g .tasks .count)) (replicate (mostTasks * mostSignals) none);
-    uses = upTo (g .signals .count) (usesIn (g .grid) counted (g .schedule) (g .tasks .count)) (replicate mostUses none);
+    uses = upTo (g .signals .count) (usesIn (g .grid) counted (g .schedule) (g .tasks .count)) (replicate mostUses 0);
     defaults = g .signals .defaults;
     carried = bases;
     held = bases;

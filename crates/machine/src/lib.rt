@@ -59,10 +59,10 @@ impl Machine {
             counts: [0; MOST_TASKS],
             reads: [NONE; CELLS],
             writes: [NONE; CELLS],
-            uses: [NONE; MOST_USES],
+            uses: [0; MOST_USES],
             defaults: [0; MOST_SIGNALS],
-            carried: [NONE; MOST_SIGNALS],
-            held: [NONE; MOST_SIGNALS],
+            carried: [0; MOST_SIGNALS],
+            held: [0; MOST_SIGNALS],
             store: [0u32; WORDS],
         }
     }

@@ -278,8 +278,8 @@ fn start<'a, 'b>(
     loading::load_windows(periods, starts, ends, counts, tasks, length);
     *reads = [NONE; CELLS];
     *writes = [NONE; CELLS];
-    *uses = [NONE; MOST_USES];
-    *carried = [NONE; MOST_SIGNALS];
+    *uses = [0; MOST_USES];
+    *carried = [0; MOST_SIGNALS];
     *store = [0; WORDS];
     let fresh = signals.defaults;
     *defaults = fresh;

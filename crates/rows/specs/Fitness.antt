@@ -1,5 +1,5 @@
 -- Document 01, "What comes back": when a state is fit. Assumes nothing.
-use Prim.Native.Nat.{ℕ, _+_, _-_, _*_}
+use Prim.Native.Nat.{ℕ, _+_, _*_}
 use mathlib.Core.Bool.{Bool, _&&_, _||_}
 use mathlib.Core.List.{List}
 use lib.Dec.{leb, ltb, eqb}
@@ -7,25 +7,29 @@ use lib.ListN.{length, getD}
 use Rattle.rules.specs.Words.{every}
 use Rattle.rules.specs.Table.{mostTasks, mostSignals, mostUses, words, longest}
 
--- points nowhere: past every list
+-- stands for no access, where else the index of its first use stands
 abbrev pub none : ℕ
 none = 65535
 
--- none, or at most the limit
-abbrev pub within : ℕ → ℕ → Bool
-within limit p = eqb p none || leb p limit
+-- an element number is inside the block
+abbrev pub inBlock : ℕ → Bool
+inBlock p = ltb p words
 
--- each position is none or inside the store
+-- each element number of a list is
 unfoldable pub positionsFit : List ℕ → Bool
-positionsFit ps = every (length ps) (λ k. within (words - 1) (getD ps k 0))
+positionsFit ps = every (length ps) (λ k. inBlock (getD ps k 0))
 
 -- where the uses of task t's access to signal s begin, none where it has no such access
 abbrev pub firstOf : List ℕ → ℕ → ℕ → ℕ
 firstOf firsts t s = getD firsts (t * mostSignals + s) 0
 
--- task t has `count` instances, and as many uses of each access are inside the list of uses
+-- an index of the list of uses, from which `count` uses are inside the list
+abbrev pub inUses : ℕ → ℕ → Bool
+inUses count first = ltb first mostUses && leb (first + count) mostUses
+
+-- task t has `count` instances, and as many uses of each of its accesses are inside the list of uses
 unfoldable pub rowFits : List ℕ → ℕ → ℕ → Bool
-rowFits firsts count t = leb count mostUses && every mostSignals (λ s. within (mostUses - count) (firstOf firsts t s))
+rowFits firsts count t = leb count mostUses && every mostSignals (λ s. eqb (firstOf firsts t s) none || inUses count (firstOf firsts t s))
 
 unfoldable pub gridFits : List ℕ → List ℕ → Bool
 gridFits firsts counts = every mostTasks (λ t. rowFits firsts (getD counts t 0) t)

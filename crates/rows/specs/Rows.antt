@@ -1,5 +1,5 @@
 -- Document 01, "The machine", over the lists that it keeps. `firsts` has for each task and signal where the uses of that access begin, or none;
--- `uses` the position in the store of each use. Assumes nothing.
+-- `uses` the position in the store of each use. Past the end of a list 0 stands and nothing is stored; a fit state never leads there. Assumes nothing.
 use Prim.Native.Nat.{ℕ, _+_, _/_, _%_}
 use mathlib.Core.Bool.{Bool, not, _&&_, cond}
 use mathlib.Core.List.{List}
@@ -36,7 +36,7 @@ closingOf period end count tick = instanceIf (eqb (phaseOf period tick + 1) end)
 unfoldable pub insideOf : (period start end count tick : ℕ) → Instance
 insideOf period start end count tick = instanceIf (leb start (phaseOf period tick) && ltb (phaseOf period tick) end) period count tick
 
--- ---- a word of the store: 0 where there is none, and nothing is stored there
+-- ---- a word of the store
 
 unfoldable pub load : List ℕ → ℕ → ℕ
 load store p = cond (ltb p words) (getD store p 0) 0
@@ -46,17 +46,21 @@ save store p w = cond (ltb p words) (set store p w) store
 
 -- ---- one signal
 
+-- task t does not have this access to signal s
+abbrev pub lacks : (firsts : List ℕ) → (t s : ℕ) → Bool
+lacks firsts t s = eqb (firstOf firsts t s) none
+
 -- where instance i of task t has signal s
 unfoldable pub useOf : (firsts uses : List ℕ) → (t i s : ℕ) → ℕ
-useOf firsts uses t i s = cond (ltb (firstOf firsts t s + i) mostUses) (getD uses (firstOf firsts t s + i) 0) none
+useOf firsts uses t i s = cond (ltb (firstOf firsts t s + i) mostUses) (getD uses (firstOf firsts t s + i) 0) 0
 
 -- closing: the signal is held where the instance has it
 unfoldable pub publishOne : (firsts uses : List ℕ) → (t i s : ℕ) → List ℕ → List ℕ
-publishOne firsts uses t i s held = cond (eqb (useOf firsts uses t i s) none) held (set held s (useOf firsts uses t i s))
+publishOne firsts uses t i s held = cond (lacks firsts t s) held (set held s (useOf firsts uses t i s))
 
 -- opening: the instance's element is set to the default
 unfoldable pub openOne : (firsts uses defaults : List ℕ) → (t i s : ℕ) → List ℕ → List ℕ
-openOne firsts uses defaults t i s store = save store (useOf firsts uses t i s) (getD defaults s 0)
+openOne firsts uses defaults t i s store = cond (lacks firsts t s) store (save store (useOf firsts uses t i s) (getD defaults s 0))
 
 -- at H: what is held is copied to the signal's element 0
 unfoldable pub carryOne : (carried held : List ℕ) → (s : ℕ) → List ℕ → List ℕ
@@ -95,5 +99,5 @@ unfoldable pub placeOf : (periods starts ends counts firsts uses : List ℕ) →
 placeOf periods starts ends counts firsts uses tick t s =
     when (leb mostTasks t) Place.NoAccess
     (when (leb mostSignals s) Place.NoAccess
-    (when (eqb (firstOf firsts t s) none) Place.NoAccess
+    (when (lacks firsts t s) Place.NoAccess
     (whereOpen firsts uses t s (insideOf (getD periods t 0) (getD starts t 0) (getD ends t 0) (getD counts t 0) tick))))

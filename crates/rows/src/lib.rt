@@ -6,13 +6,16 @@ use rules::MOST_TASKS;
 use rules::MOST_USES;
 use rules::WORDS;
 ghost use mathlib.Core.Path.{_≡_};
-ghost use Prim.Native.Nat.{_<_};
-ghost use Rattle.rules.specs.Table.{mostTasks, mostSignals};
+ghost use mathlib.Core.Bool.{_&&_, _||_};
+ghost use Prim.Native.Nat.{ℕ, _<_, _≤_};
+ghost use lib.Dec.{leb, eqb};
+ghost use Rattle.rules.specs.Table.{mostTasks, mostSignals, mostUses};
 ghost use Rattle.rows.specs.Folds.{upTo};
-ghost use Rattle.rows.specs.Fitness.{within, positionsFit, rowFits, gridFits, running, fitParts};
-ghost use Rattle.rows.specs.Rows.{phaseOf, instanceIf, openingOf, closingOf, insideOf, load, save, useOf, publishOne, openOne, carryOne, atInstance, publications, openings, copies, placeOf};
+ghost use Rattle.rows.specs.Fitness.{none, inBlock, inUses, positionsFit, rowFits, gridFits, running, fitParts};
+ghost use Rattle.rows.specs.Rows.{phaseOf, instanceIf, openingOf, closingOf, insideOf, load, save, lacks, useOf, publishOne, openOne, carryOne, atInstance, publications, openings, copies, placeOf};
 
-const LAST_WORD: u16 = (WORDS - 1) as u16;
+// The block's words, as the lists keep positions.
+const BLOCK: u16 = WORDS as u16;
 
 // No task has more instances than there are uses.
 const MOST_COUNT: u32 = MOST_USES as u32;
@@ -20,7 +23,7 @@ const MOST_COUNT: u32 = MOST_USES as u32;
 // One cell for each task and signal, a row for each task.
 pub const CELLS: usize = MOST_TASKS * MOST_SIGNALS;
 
-// Points nowhere: past every list.
+// Stands for no access, where else the index of its first use stands.
 pub const NONE: u16 = 65535;
 
 // A task's instance, where there is one.
@@ -44,10 +47,10 @@ fn wide(x: u16) -> usize
 
 // Fitness.
 
-fn is_within(limit: u16, p: u16) -> bool
-    ensures { λ r. ⌜ r ≡ within limit p ⌝ }
+fn in_block(position: u16) -> bool
+    ensures { λ r. ⌜ r ≡ inBlock position ⌝ }
 {
-    if p == NONE { true } else { p <= limit }
+    position < BLOCK
 }
 
 fn positions_fit(positions: &[u16]) -> bool
@@ -55,9 +58,27 @@ fn positions_fit(positions: &[u16]) -> bool
 {
     let mut ok = true;
     for k in 0..positions.len() {
-        ok = both(is_within(LAST_WORD, positions[k]), ok);
+        ok = both(in_block(positions[k]), ok);
     }
     ok
+}
+
+// The last index from which the uses of so many instances are inside the list; of none, the list's last.
+fn last_first(count: u32) -> u16
+    requires { ⌜ count ≤ mostUses ⌝ }
+    ensures { λ r. ⌜ ((first : ℕ) → leb first r ≡ inUses count first) ⌝ }
+{
+    if count == 0 {
+        return (MOST_COUNT - 1) as u16;
+    }
+    (MOST_COUNT - count) as u16
+}
+
+// No access, or an index up to the last.
+fn access_fits(last: u16, first: u16) -> bool
+    ensures { λ r. ⌜ r ≡ (eqb first none || leb first last) ⌝ }
+{
+    if first == NONE { true } else { first <= last }
 }
 
 fn row_fits(firsts: &[u16; CELLS], task: usize, count: u32) -> bool
@@ -67,10 +88,10 @@ fn row_fits(firsts: &[u16; CELLS], task: usize, count: u32) -> bool
     if MOST_COUNT < count {
         return false;
     }
-    let limit = (MOST_COUNT - count) as u16;
+    let last = last_first(count);
     let mut ok = true;
     for s in 0..MOST_SIGNALS {
-        ok = both(is_within(limit, firsts[task * MOST_SIGNALS + s]), ok);
+        ok = both(access_fits(last, firsts[task * MOST_SIGNALS + s]), ok);
     }
     ok
 }
@@ -159,7 +180,7 @@ fn inside(period: u32, start: u32, end: u32, count: u32, tick: u32) -> Instance
     instance_if(both(start <= p, p < end), period, count, tick)
 }
 
-// A word of the store. None is past its end: nothing is stored there, and 0 is found.
+// A word of the store. A fit state keeps no position past its end; there nothing is stored, and 0 is found.
 
 pub fn load(store: &[u32; WORDS], position: u16) -> u32
     ensures { λ r. ⌜ r ≡ load (now (store .entry)) position ⌝ }
@@ -180,7 +201,14 @@ pub fn save(store: &mut [u32; WORDS], position: u16, word: u32)
 
 // One signal of one task's instance.
 
-// Where the instance has the signal; a first use of none leads past the list of uses.
+fn lacks(firsts: &[u16; CELLS], task: usize, signal: usize) -> bool
+    requires { ⌜ (task < mostTasks) × (signal < mostSignals) ⌝ }
+    ensures { λ r. ⌜ r ≡ lacks (now (firsts .entry)) task signal ⌝ }
+{
+    firsts[task * MOST_SIGNALS + signal] == NONE
+}
+
+// Where the instance has the signal. A fit state has no use past the list; there 0 is found.
 fn use_of<'a>(
     firsts: &'a [u16; CELLS],
     uses: &'a [u16; MOST_USES],
@@ -192,7 +220,7 @@ fn use_of<'a>(
     ensures { λ r. ⌜ r ≡ useOf (now (firsts .entry)) (now (uses .entry)) task instance signal ⌝ }
 {
     let k = wide(firsts[task * MOST_SIGNALS + signal]) + instance as usize;
-    if k < MOST_USES { uses[k] } else { NONE }
+    if k < MOST_USES { uses[k] } else { 0 }
 }
 
 fn publish_one<'a>(
@@ -206,11 +234,10 @@ fn publish_one<'a>(
     requires { ⌜ (task < mostTasks) × (signal < mostSignals) ⌝ }
     ensures { λ _. ⌜ now (held .exit) ≡ publishOne (now (firsts .entry)) (now (uses .entry)) task instance signal (now (held .entry)) ⌝ }
 {
-    let position = use_of(firsts, uses, task, instance, signal);
-    if position == NONE {
+    if lacks(firsts, task, signal) {
         return;
     }
-    held[signal] = position;
+    held[signal] = use_of(firsts, uses, task, instance, signal);
 }
 
 fn open_one<'a>(
@@ -225,6 +252,9 @@ fn open_one<'a>(
     requires { ⌜ (task < mostTasks) × (signal < mostSignals) ⌝ }
     ensures { λ _. ⌜ now (store .exit) ≡ openOne (now (firsts .entry)) (now (uses .entry)) (now (defaults .entry)) task instance signal (now (store .entry)) ⌝ }
 {
+    if lacks(firsts, task, signal) {
+        return;
+    }
     save(
         store,
         use_of(firsts, uses, task, instance, signal),
@@ -382,7 +412,7 @@ pub fn locate<'a>(
     if MOST_SIGNALS <= signal {
         return Place::NoAccess;
     }
-    if firsts[task * MOST_SIGNALS + signal] == NONE {
+    if lacks(firsts, task, signal) {
         return Place::NoAccess;
     }
     match inside(periods[task], starts[task], ends[task], counts[task], tick) {

@@ -14,10 +14,7 @@ locate-spec =
     (tie.spec
     (λ c. search ladder)
     (λ c. search ladder)
-    (λ c. search needs)
-    (λ c. search needs)
-    (λ c. search needs)
-    (λ c. search needs)
+    (λ c κs. search needs)
     (λ c. search ladder)
     (λ c. search needs)
     (λ c. search needs)

@@ -4,15 +4,14 @@ use borrow.Author.Needs.{needs}
 use mathlib.Core.Path.{_≡_}
 use Prim.Native.Nat.{_-_, _≤_}
 use lib.ListN.{length, getD}
-use Rattle.rules.specs.Table.{words}
 use Rattle.rules.specs.Words.{every}
-use Rattle.rows.specs.Fitness.{within, positionsFit}
+use Rattle.rows.specs.Fitness.{inBlock, positionsFit}
 use Rattle.rows.proofs.Folds.{tested-none, tested-turn, tested-end}
 use Rattle.rows.proofs.positions_fit.Statement.{statement}
 use Rattle.rows.proofs.positions_fit.Tie as tie
 
 abbrev Inv-loop : tie.InvT-loop
-Inv-loop positions ok₀ k₀ k-end ok k = (k ≤ length positions) × (ok ≡ every k (λ j. within (words - 1) (getD positions j 0)))
+Inv-loop positions ok₀ k₀ k-end ok k = (k ≤ length positions) × (ok ≡ every k (λ j. inBlock (getD positions j 0)))
 
 abbrev μ-loop : tie.MeasureT-loop
 μ-loop positions ok₀ k₀ k-end ok k = length positions - k
@@ -31,5 +30,5 @@ positions-fit-spec =
     (λ c κs. search needs)
     (λ c. search needs)
     (λ c. search needs)
-    (λ c. (omega arith, tested-turn _ _ (c .both .ensures) (c .before .before .before .before .loop .inv .1) (c .before .is-within .ensures)))
+    (λ c. (omega arith, tested-turn _ _ (c .both .ensures) (c .before .before .before .before .loop .inv .1) (c .before .in-block .ensures)))
     (λ c. tested-end _ _ _ (c .before .loop .inv .1) (omega arith) (omega arith)))

@@ -1,6 +1,6 @@
--- One signal is held where the closing instance has it.
+-- One signal is held where the closing instance has it, if it has the access.
 use borrow.Author.Needs.{needs}
-use borrow.Author.Tests.{eq-eqb, ne-eqb}
+use mathlib.Core.Path.{sym, _∙_}
 use Rattle.rows.specs.Rows.{publishOne}
 use Rattle.rows.proofs.publish_one.Statement.{statement}
 use Rattle.rows.proofs.publish_one.Tie as tie
@@ -11,7 +11,8 @@ publish-one-spec =
     tie.close
     (tie.spec
     (λ c κs. search needs)
-    (λ c. rw (← c .before .use-of .ensures, eq-eqb _ _ (c .if1 .taken)))
+    (λ c. rw (sym (c .before .lacks .ensures) ∙ c .if1 .taken))
+    (λ c κs. search needs)
     (λ c. search needs)
     (λ c. search needs)
-    (λ c. rw (← c .before .use-of .ensures, ne-eqb _ _ (c .if1 .left))))
+    (λ c. rw (← c .use-of .ensures, sym (c .before .before .lacks .ensures) ∙ c .before .if1 .left)))

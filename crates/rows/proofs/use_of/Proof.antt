@@ -1,4 +1,4 @@
--- A first use of none leads past the list of uses.
+-- A use inside the list, or past it.
 use native.Mathlib.Omega.{arith}
 use borrow.Author.Needs.{needs}
 use Prim.Native.Nat.{_+_}
