@@ -3,21 +3,14 @@ use lives::LiveValue;
 use machine::Machine;
 use rules::Answer;
 ghost use mathlib.Core.Path.{_≡_};
-ghost use lib.ListN.{length};
 ghost use Rattle.rules.specs.Numbers.{told};
-ghost use Rattle.rules.specs.Reading.{readSays};
-ghost use Rattle.rules.specs.Loading.{loadSays};
-ghost use Rattle.plan.specs.Planning.{planTold, planOut};
-ghost use Rattle.lives.specs.Lives.{liveTold, liveOut};
-ghost use Rattle.machine.specs.Calls.{unloaded, stepOf, readOf, writeOf};
-ghost use Rattle.machine.specs.Load.{loadLeaves};
 ghost use Rattle.export.specs.Numbers.{numbered};
+ghost use Rattle.export.specs.Gives.{PressTableGives, PressPlanGives, PressCheckGives, PressLiveGives, PressNewGives, PressLoadGives, PressStepGives, PressReadGives, PressWriteGives};
 
 // Reading a table: 0, or 1 to 11.
 #[no_mangle]
 pub extern "C" fn press_table(table: &[u8], place: &mut usize) -> u8
-    ensures number { λ r. ⌜ r ≡ readSays (now (table .entry)) .number ⌝ }
-    ensures place { λ _. ⌜ now (place .exit) ≡ readSays (now (table .entry)) .place ⌝ }
+    ensures { λ r. ⌜ PressTableGives (now (table .entry)) r (now (place .exit)) ⌝ }
 {
     let read = table::read_table(table);
     let verdict = read.answer;
@@ -28,9 +21,7 @@ pub extern "C" fn press_table(table: &[u8], place: &mut usize) -> u8
 // Planning a table into the lent buffer: 0 with the bytes planned, or 1 to 14.
 #[no_mangle]
 pub extern "C" fn press_plan(table: &[u8], out: &mut [u8], place: &mut usize) -> u8
-    ensures number { λ r. ⌜ r ≡ planTold (now (table .entry)) (length (now (out .entry))) .number ⌝ }
-    ensures place { λ _. ⌜ now (place .exit) ≡ planTold (now (table .entry)) (length (now (out .entry))) .place ⌝ }
-    ensures planned { λ _. ⌜ now (out .exit) ≡ planOut (now (table .entry)) (now (out .entry)) ⌝ }
+    ensures { λ r. ⌜ PressPlanGives (now (table .entry)) (now (out .entry)) r (now (place .exit)) (now (out .exit)) ⌝ }
 {
     let planned = plan::plan(table, out);
     *place = answers::place(planned);
@@ -40,8 +31,7 @@ pub extern "C" fn press_plan(table: &[u8], out: &mut [u8], place: &mut usize) ->
 // Checking a schedule that was made elsewhere: 0, 1 to 11 for the table, or 15 to 22.
 #[no_mangle]
 pub extern "C" fn press_check(table: &[u8], schedule: &[u8], place: &mut usize) -> u8
-    ensures number { λ r. ⌜ r ≡ loadSays (now (table .entry)) (now (schedule .entry)) .number ⌝ }
-    ensures place { λ _. ⌜ now (place .exit) ≡ loadSays (now (table .entry)) (now (schedule .entry)) .place ⌝ }
+    ensures { λ r. ⌜ PressCheckGives (now (table .entry)) (now (schedule .entry)) r (now (place .exit)) ⌝ }
 {
     let checked = inspect::check_schedule(table, schedule);
     *place = answers::place(checked);
@@ -71,9 +61,7 @@ pub extern "C" fn press_live(
     list: &mut [LiveValue],
     place: &mut usize,
 ) -> u8
-    ensures { λ r. ⌜ (r ≡ liveTold (now (table .entry)) signal (length (now (list .entry))) .number)
-        × (now (place .exit) ≡ liveTold (now (table .entry)) signal (length (now (list .entry))) .place)
-        × (now (list .exit) ≡ liveOut (now (table .entry)) signal (now (list .entry))) ⌝ }
+    ensures { λ r. ⌜ PressLiveGives (now (table .entry)) signal (now (list .entry)) r (now (place .exit)) (now (list .exit)) ⌝ }
 {
     let answer = lives::live_list(table, signal, list);
     let told = numbers_of(answer);
@@ -84,7 +72,7 @@ pub extern "C" fn press_live(
 // A machine before its first loading, in memory that the caller lends.
 #[no_mangle]
 pub extern "C" fn press_new(machine: &mut Machine)
-    ensures { λ _. ⌜ now (machine .exit) ≡ unloaded ⌝ }
+    ensures { λ _. ⌜ PressNewGives (now (machine .exit)) ⌝ }
 {
     *machine = Machine::new();
 }
@@ -97,9 +85,7 @@ pub extern "C" fn press_load<'a>(
     schedule: &'a [u8],
     place: &mut usize,
 ) -> u8
-    ensures { λ r. ⌜ (r ≡ loadSays (now (table .entry)) (now (schedule .entry)) .number)
-        × (now (place .exit) ≡ loadSays (now (table .entry)) (now (schedule .entry)) .place)
-        × (now (machine .exit) ≡ loadLeaves (now (machine .entry)) (now (table .entry)) (now (schedule .entry))) ⌝ }
+    ensures { λ r. ⌜ PressLoadGives (now (machine .entry)) (now (table .entry)) (now (schedule .entry)) r (now (place .exit)) (now (machine .exit)) ⌝ }
 {
     let answer = machine::lists::load(
         &mut machine.loaded,
@@ -127,8 +113,7 @@ pub extern "C" fn press_load<'a>(
 // The next tick: 0, or 25.
 #[no_mangle]
 pub extern "C" fn press_step(running: &mut Machine) -> u8
-    ensures { λ r. ⌜ (r ≡ told (stepOf (now (running .entry)) .answer) .number)
-        × (now (running .exit) ≡ stepOf (now (running .entry)) .machine) ⌝ }
+    ensures { λ r. ⌜ PressStepGives (now (running .entry)) r (now (running .exit)) ⌝ }
 {
     let stepped = machine::lists::step(
         running.loaded,
@@ -152,8 +137,7 @@ pub extern "C" fn press_step(running: &mut Machine) -> u8
 // What a task reads of a signal now: 0 with the word, or 23 to 25 with word 0.
 #[no_mangle]
 pub extern "C" fn press_read(state: &Machine, task: usize, signal: usize, word: &mut u32) -> u8
-    ensures { λ r. ⌜ (r ≡ told (readOf (now (state .entry)) task signal .answer) .number)
-        × (now (word .exit) ≡ readOf (now (state .entry)) task signal .word) ⌝ }
+    ensures { λ r. ⌜ PressReadGives (now (state .entry)) task signal r (now (word .exit)) ⌝ }
 {
     let read = machine::lists::read(
         state.loaded,
@@ -179,8 +163,7 @@ pub extern "C" fn press_read(state: &Machine, task: usize, signal: usize, word: 
 // A task's write to a signal: 0, or 23 to 25.
 #[no_mangle]
 pub extern "C" fn press_write(machine: &mut Machine, task: usize, signal: usize, word: u32) -> u8
-    ensures { λ r. ⌜ (r ≡ told (writeOf (now (machine .entry)) task signal word .answer) .number)
-        × (now (machine .exit) ≡ writeOf (now (machine .entry)) task signal word .machine) ⌝ }
+    ensures { λ r. ⌜ PressWriteGives (now (machine .entry)) task signal word r (now (machine .exit)) ⌝ }
 {
     let written = machine::lists::write(
         machine.loaded,

@@ -42,11 +42,12 @@ determined = record {
   lists-write = λ m task signal word a b p q. let e = p [] ∙ sym (q []) in λ i. (e i .answer, e i .machine .store);
   number = λ a. named _;
   place = λ a. named _;
-  task = λ bytes count at a b p q. task-exact a b (p ∙ sym q);
-  signal = λ bytes count at a b p q. signal-exact a b (p ∙ sym q);
-  access = λ bytes tasks signals count last at a b p q. access-exact a b (p ∙ sym q);
-  end = λ bytes at a b p q. end-exact a b (p ∙ sym q);
-  reader = named;
+  task = λ bytes count place a b p q. task-exact a b (p ∙ sym q);
+  signal = λ bytes count place a b p q. signal-exact a b (p ∙ sym q);
+  access = λ bytes tasks signals count last place a b p q. access-exact a b (p ∙ sym q);
+  end = λ bytes place a b p q. end-exact a b (p ∙ sym q);
+  reader = λ table place. named _;
+  read-grid = λ bytes. named _;
   press-table = λ table a b p q. paired a b (p .0 ∙ sym (q .0)) (p .1 ∙ sym (q .1));
   press-plan = λ table out a b p q. threefold a b (p .0 ∙ sym (q .0)) (p .1 ∙ sym (q .1)) (p .2 ∙ sym (q .2));
   press-check = λ table schedule a b p q. paired a b (p .0 ∙ sym (q .0)) (p .1 ∙ sym (q .1));

@@ -41,7 +41,7 @@ module _ (bytes : List ℕ) (r : TableRead) (g : TableGives bytes r) where
 pub tables-exactly : TablesExactly
 tables-exactly bytes o r g = record {
   accepted = subst (λ (t : Told). (t .number ≡ allDone) ↔ ((tab : Table) × Fits tab × Wide tab × (bytes ≡ encode tab))) (sym (answer-is bytes r g)) (table-accepted-exactly bytes o);
-  same = λ tab F w e. subst (λ (x : Table). SameTable x tab) (sym (table-is bytes r g)) (read-same bytes r g tab F w e);
+  same = λ d h tab F w e. subst (λ (x : Table). SameTable x tab) (sym (ap (tableOf (r .tasks) (r .signals)) h ∙ table-is bytes r g)) (read-same bytes r g tab F w e);
   period = λ tab F w e. hyper-read bytes r g (ap (λ (x : List ℕ). readSays x .number) e ∙ ap (λ (t : Told). t .number) (table-reads-back tab F w .0)) ∙ same-hyper (tableIn bytes) tab (read-same bytes r g tab F w e);
   record-refused = λ t e. answer-is bytes r g ∙ refusal bytes t e;
   whole-refused = λ p e. subst (FirstBroken (BrokenTable (tableIn bytes)) tableTold (tableRules (tableIn bytes))) (sym (answer-is bytes r g ∙ judged bytes p e)) (table-says-first (tableIn bytes));

@@ -1,6 +1,7 @@
--- The user's demands in his order, about the functions he calls: `table::read_table`, `plan::plan`, `lives::live_list`, `inspect::check_schedule`, and
--- `machine::Machine` with new, load, step, read and write. Each function is named by the contract that its source cites (TableGives, PlanGives,
--- ListGives, CheckGives, NewGives, Loads, StepGives, ReadGives, WriteGives); each clause says what follows for whatever the function gave. proofs/Demands.antt proves them all. Assumes nothing.
+-- The user's demands in his order, about the functions he calls: `table::read_table` with `sections::grid::read_grid`, `plan::plan`, `lives::live_list`,
+-- `inspect::check_schedule`, and `machine::Machine` with new, load, step, read and write. Each function is named by the contract that its source cites
+-- (TableGives, GridGives, PlanGives, ListGives, CheckGives, Loads, StepGives, ReadGives, WriteGives); each clause says what follows for whatever
+-- the function gave. proofs/Demands.antt proves them all. Assumes nothing.
 use Prim.Native.Nat.{ℕ}
 use mathlib.Core.Path.{_≡_}
 use mathlib.Core.Bool.{true}

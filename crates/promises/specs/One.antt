@@ -4,34 +4,33 @@
 use Prim.Native.Nat.{ℕ}
 use mathlib.Core.Path.{_≡_}
 use mathlib.Core.List.{List}
-use lib.ListN.{length}
-use Rattle.rules.specs.Numbers.{told}
-use Rattle.rules.specs.Reading.{readSays}
-use Rattle.rules.specs.Loading.{loadSays}
-use Rattle.rules.specs.Records.{taskAt, signalAt, accessAt, endAt}
+use denote.Ref.{RefT}
+use Rattle.rules.specs.Reading.{Grid}
 use Rattle.rules.specs.declared.Access.{Access}
 use Rattle.rules.specs.declared.Answer.{Answer}
-use Rattle.records.specs.Said.{taskSaid, signalSaid, accessSaid, endSaid}
+use Rattle.records.specs.declared.Cursor.{Cursor}
 use Rattle.records.specs.declared.TaskStep.{TaskStep}
 use Rattle.records.specs.declared.SignalStep.{SignalStep}
 use Rattle.records.specs.declared.AccessStep.{AccessStep}
 use Rattle.records.specs.declared.Ending.{Ending}
-use Rattle.plan.specs.Planning.{planTold, planOut}
+use Rattle.records.specs.Gives.{TaskGives, SignalGives, AccessGives, EndGives}
+use Rattle.reader.specs.declared.Reader.{Reader}
+use Rattle.reader.specs.Gives.{ReaderGives}
+use Rattle.sections.specs.Gives.{GridGives}
 use Rattle.plan.specs.Gives.{PlanGives}
 use Rattle.table.specs.declared.reading.TableRead.{TableRead}
 use Rattle.table.specs.Gives.{TableGives}
 use Rattle.lives.specs.declared.LiveValue.{LiveValue}
 use Rattle.lives.specs.declared.list.Lived.{Lived}
-use Rattle.lives.specs.Lives.{liveTold, liveOut}
 use Rattle.lives.specs.Gives.{ListGives, LentGives}
 use Rattle.inspect.specs.Gives.{CheckGives}
 use Rattle.answers.specs.Gives.{NumberGives, PlaceGives}
 use Rattle.machine.specs.declared.Machine.{Machine}
 use Rattle.machine.specs.declared.Stepped.{Stepped}
 use Rattle.machine.specs.declared.WordRead.{WordRead}
-use Rattle.machine.specs.Calls.{unloaded, stepOf, readOf, writeOf}
-use Rattle.machine.specs.Load.{loadLeaves, Loads}
+use Rattle.machine.specs.Load.{Loads}
 use Rattle.machine.specs.Gives.{NewGives, StepGives, ReadGives, WriteGives, ListsLoadGives, ListsStepGives, ListsReadGives, ListsWriteGives}
+use Rattle.export.specs.Gives.{PressTableGives, PressPlanGives, PressCheckGives, PressLiveGives, PressNewGives, PressLoadGives, PressStepGives, PressReadGives, PressWriteGives}
 
 -- all that meet a contract are equal
 abbrev pub One : {A : Type 0} → (A → Type 0) → Type 0
@@ -70,36 +69,35 @@ pub record Determined : Type 1 where
   pub number : (a : Answer) → One (λ (n : ℕ). NumberGives a n)
   -- answers::place
   pub place : (a : Answer) → One (λ (n : ℕ). PlaceGives a n)
-  -- reader::next_task, reader::task_at
-  pub task : (bytes : List ℕ) (count at : ℕ) → One (λ (r : TaskStep). taskSaid r ≡ taskAt bytes count at)
-  -- reader::next_signal, reader::signal_at
-  pub signal : (bytes : List ℕ) (count at : ℕ) → One (λ (r : SignalStep). signalSaid r ≡ signalAt bytes count at)
-  -- reader::next_access, reader::access_at
-  pub access : (bytes : List ℕ) (tasks signals count : ℕ) (last : Access) (at : ℕ) → One (λ (r : AccessStep). accessSaid r ≡ accessAt bytes tasks signals count last at)
-  -- reader::next_end, reader::end_at
-  pub end : (bytes : List ℕ) (at : ℕ) → One (λ (r : Ending). endSaid r ≡ endAt bytes at)
-  -- reader::new, reader::moved, reader::placed: the contract names the reader that is given
-  pub reader : {Reader : Type 0} (given : Reader) → One (λ (r : Reader). r ≡ given)
+  -- records::Cursor::task, reader::next_task, reader::task_at
+  pub task : (bytes : List ℕ) (count : ℕ) (place : Cursor) → One (λ (r : TaskStep). TaskGives bytes count place r)
+  -- records::Cursor::signal, reader::next_signal, reader::signal_at
+  pub signal : (bytes : List ℕ) (count : ℕ) (place : Cursor) → One (λ (r : SignalStep). SignalGives bytes count place r)
+  -- records::Cursor::access, reader::next_access, reader::access_at
+  pub access : (bytes : List ℕ) (tasks signals count : ℕ) (last : Access) (place : Cursor) → One (λ (r : AccessStep). AccessGives bytes tasks signals count last place r)
+  -- records::Cursor::end, reader::next_end, reader::end_at
+  pub end : (bytes : List ℕ) (place : Cursor) → One (λ (r : Ending). EndGives bytes place r)
+  -- reader::new, reader::moved, reader::placed
+  pub reader : (table : RefT (List ℕ)) (place : Cursor) → One (λ (r : Reader). ReaderGives table place r)
+  -- sections::grid::read_grid
+  pub read-grid : (bytes : List ℕ) → One (λ (g : Grid). GridGives bytes g)
   -- ---- the library for firmware: number, place, and what is lent
 
   -- export::press_table
-  pub press-table : (table : List ℕ) → One (λ (x : ℕ × ℕ). (x .0 ≡ readSays table .number) × (x .1 ≡ readSays table .place))
+  pub press-table : (table : List ℕ) → One (λ (x : ℕ × ℕ). PressTableGives table (x .0) (x .1))
   -- export::press_plan
-  pub press-plan : (table out : List ℕ)
-      → One (λ (x : ℕ × ℕ × List ℕ). (x .0 ≡ planTold table (length out) .number) × (x .1 ≡ planTold table (length out) .place) × (x .2 ≡ planOut table out))
+  pub press-plan : (table out : List ℕ) → One (λ (x : ℕ × ℕ × List ℕ). PressPlanGives table out (x .0) (x .1) (x .2))
   -- export::press_check
-  pub press-check : (table schedule : List ℕ) → One (λ (x : ℕ × ℕ). (x .0 ≡ loadSays table schedule .number) × (x .1 ≡ loadSays table schedule .place))
+  pub press-check : (table schedule : List ℕ) → One (λ (x : ℕ × ℕ). PressCheckGives table schedule (x .0) (x .1))
   -- export::press_live
-  pub press-live : (table : List ℕ) (signal : ℕ) (list : List LiveValue)
-      → One (λ (x : ℕ × ℕ × List LiveValue). (x .0 ≡ liveTold table signal (length list) .number) × (x .1 ≡ liveTold table signal (length list) .place) × (x .2 ≡ liveOut table signal list))
+  pub press-live : (table : List ℕ) (signal : ℕ) (list : List LiveValue) → One (λ (x : ℕ × ℕ × List LiveValue). PressLiveGives table signal list (x .0) (x .1) (x .2))
   -- export::press_new
-  pub press-new : One (λ (m : Machine). m ≡ unloaded)
+  pub press-new : One (λ (m : Machine). PressNewGives m)
   -- export::press_load
-  pub press-load : (m : Machine) (table schedule : List ℕ)
-      → One (λ (x : ℕ × ℕ × Machine). (x .0 ≡ loadSays table schedule .number) × (x .1 ≡ loadSays table schedule .place) × (x .2 ≡ loadLeaves m table schedule))
+  pub press-load : (m : Machine) (table schedule : List ℕ) → One (λ (x : ℕ × ℕ × Machine). PressLoadGives m table schedule (x .0) (x .1) (x .2))
   -- export::press_step
-  pub press-step : (m : Machine) → One (λ (x : ℕ × Machine). (x .0 ≡ told (stepOf m .answer) .number) × (x .1 ≡ stepOf m .machine))
+  pub press-step : (m : Machine) → One (λ (x : ℕ × Machine). PressStepGives m (x .0) (x .1))
   -- export::press_read
-  pub press-read : (m : Machine) (task signal : ℕ) → One (λ (x : ℕ × ℕ). (x .0 ≡ told (readOf m task signal .answer) .number) × (x .1 ≡ readOf m task signal .word))
+  pub press-read : (m : Machine) (task signal : ℕ) → One (λ (x : ℕ × ℕ). PressReadGives m task signal (x .0) (x .1))
   -- export::press_write
-  pub press-write : (m : Machine) (task signal word : ℕ) → One (λ (x : ℕ × Machine). (x .0 ≡ told (writeOf m task signal word .answer) .number) × (x .1 ≡ writeOf m task signal word .machine))
+  pub press-write : (m : Machine) (task signal word : ℕ) → One (λ (x : ℕ × Machine). PressWriteGives m task signal word (x .0) (x .1))

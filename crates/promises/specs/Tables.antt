@@ -1,4 +1,4 @@
--- Demand 2, first sentence, about `table::read_table`: a table is accepted exactly when document 01's rules hold. proofs/Tables.antt proves it.
+-- Demand 2, first sentence, about `table::read_table` and `sections::grid::read_grid`: a table is accepted exactly when document 01's rules hold. proofs/Tables.antt proves it.
 -- Assumes nothing.
 use Prim.Native.Nat.{ℕ}
 use mathlib.Core.Path.{_≡_}
@@ -9,17 +9,18 @@ use Rattle.rules.specs.Table.{Fits}
 use Rattle.rules.specs.Numbers.{Told, told, allDone}
 use Rattle.rules.specs.Encode.{encode}
 use Rattle.rules.specs.Records.{End}
-use Rattle.rules.specs.Reading.{tableOf, gridIn, tableIn, endOf}
+use Rattle.rules.specs.Reading.{Grid, tableOf, tableIn, endOf}
 use Rattle.theory.specs.First.{FirstBroken, tableRules, BrokenTable, tableTold}
 use Rattle.theory.specs.TableBytes.{SameTable, Wide, AreBytes}
+use Rattle.sections.specs.Gives.{GridGives}
 use Rattle.table.specs.declared.reading.TableRead.{TableRead}
 use Rattle.table.specs.Gives.{TableGives}
 
 pub record ReadExactly (bytes : List ℕ) (r : TableRead) : Type 0 where
   -- it is accepted exactly where the bytes are those of a table that keeps every rule,
   pub accepted : (told (r .answer) .number ≡ allDone) ↔ ((tab : Table) × Fits tab × Wide tab × (bytes ≡ encode tab))
-  -- of that table, and there is no other,
-  pub same : (tab : Table) → Fits tab → Wide tab → bytes ≡ encode tab → SameTable (tableOf (r .tasks) (r .signals) (gridIn bytes)) tab
+  -- what is read, with the accesses that `read_grid` gives, is that table, and there is no other,
+  pub same : (g : Grid) → GridGives bytes g → (tab : Table) → Fits tab → Wide tab → bytes ≡ encode tab → SameTable (tableOf (r .tasks) (r .signals) g) tab
   -- with its hyper-period.
   pub period : (tab : Table) → Fits tab → Wide tab → bytes ≡ encode tab → r .hyper ≡ hyper tab
   -- A record that is refused gives the number and place of its first broken rule, 1 to 6, as `Records` lists them;

@@ -58,9 +58,9 @@ module _ (R : RattleType) where
     kept = (yes, (yes, (yes, tt)));
   }
 
-  module _ (Fact : List ℕ → ℕ → ℕ → R .Denot → Type 0) {M : Type 1} (𝓤 : URA M) where
+  module _ (Fact : List ℕ → ℕ → Cursor → R .Denot → Type 0) {M : Type 1} (𝓤 : URA M) where
     abbrev pub atClauses : Clauses 𝓤 atEnded
-    atClauses κs a = record { ghost = Unit {0}; requires = λ _. emp 𝓤; ensures = λ _ r _. fact 𝓤 (Fact (now (a .0)) (a .1 .1 .0) (a .1 .0 .at) r) }
+    atClauses κs a = record { ghost = Unit {0}; requires = λ _. emp 𝓤; ensures = λ _ r _. fact 𝓤 (Fact (now (a .0)) (a .1 .1 .0) (a .1 .0) r) }
 
     abbrev pub At : (H : Heap 𝓤) (A : Atoms 𝓤) → Contract 𝓤
     At H A = tripleOf 𝓤 H A (atEnded .signature) (closing 𝓤 H A atEnded atClauses)
@@ -74,7 +74,7 @@ atFn τ f = record {
   body = seq (call placed-key.name (copy (place 1 []) ∷ copy (place 2 []) ∷ []) (place 4 [])) (seq (call f (copy (place 4 []) ∷ copy (place 3 []) ∷ []) (place 0 [])) return);
 }
 
-module _ {M : Type 1} (𝓤 : URA M) (H : Heap 𝓤) (A : Atoms 𝓤) (W : Given 𝓤 H A) (mem : Memory → SProp 𝓤) (run : Routine → Fun 𝓤) (R : RattleType) (Fact : List ℕ → ℕ → ℕ → R .Denot → Type 0)
+module _ {M : Type 1} (𝓤 : URA M) (H : Heap 𝓤) (A : Atoms 𝓤) (W : Given 𝓤 H A) (mem : Memory → SProp 𝓤) (run : Routine → Fun 𝓤) (R : RattleType) (Fact : List ℕ → ℕ → Cursor → R .Denot → Type 0)
     (τ : Ty) (typed : (r : R .Denot) (u : Val) → Is R r (u ∷ []) → Holds (hasTy τ u) × WT u) (f : Name) (𝓣 : Tables 𝓤 H)
     (known-placed : Triple 𝓤 (𝓣 .C placed-key.name) (Placed 𝓤 H A mem run)) (known-next : Triple 𝓤 (𝓣 .C f) (Next R Fact 𝓤 H A)) where
   module _ (κ : Lft) (q : Share) (s : RefT (List ℕ)) (c : Cursor) (count : ℕ) where
@@ -105,12 +105,12 @@ module _ {M : Type 1} (𝓤 : URA M) (H : Heap 𝓤) (A : Atoms 𝓤) (W : Given
         -- [what the reader owns; the token; the reader; …; count; …; the place; …; the table; …; room for _0; …; what count owns]
         move ! (0 ∷ 12 ∷ []) $ fjoin ! $ use2 W (raw (Next R Fact 𝓤 H A .pre (to-next r u))) (hands 𝓤 H A W κ q (owns (readerRow (κ, tt) ∷ usize ∷ []) (r, (count, tt)) (u ∷ [], counted))) $
         calls-at ! (fmOf 𝓤 H (W .laws) 𝓣) (Next R Fact 𝓤 H A) known-next (to-next r u) (and-then ! (load ! (from ! (stop !)) (look ! 1 refl)) (and-then ! (load ! (from ! (stop !)) (look ! 3 refl)) (no-more !))) (λ v.
-        answers ! tt κ q R v (lasts (nextEnded R) (κ, tt) (r, (count, tt))) (Fact (now (r .table)) count (r .place .at)) (λ t told t-is.
+        answers ! tt κ q R v (lasts (nextEnded R) (κ, tt) (r, (count, tt))) (Fact (now (r .table)) count (r .place)) (λ t told t-is.
         -- [the answer; the token; the reader; …; count; …; the place; …; the table; …; room for _0; …]
         land ! (from ! (stop !)) (init ! 10 refl (typed t v t-is)) $ returns ! (look ! 10 refl) $ keep ! (10 ∷ 11 ∷ 8 ∷ 9 ∷ 6 ∷ 7 ∷ 4 ∷ 5 ∷ 2 ∷ 3 ∷ 0 ∷ 1 ∷ []) $
         frees-full ! $ frees-full ! $ frees-full ! $ frees-full ! $ frees-full ! $ free0 ! $
         by ! (gives 𝓤 H A W (atEnded R) (atClauses R Fact 𝓤) (κ, tt) (q, tt) tt (s, (c, (count, tt))) at tt v t (tt, (tt, (tt, tt)))
-        (factI 𝓤 _ (emp 𝓤) (subst (λ (x : Reader). Fact (now (x .table)) count (x .place .at) t) e told)))))))))))
+        (factI 𝓤 _ (emp 𝓤) (subst (λ (x : Reader). Fact (now (x .table)) count (x .place) t) e told)))))))))))
 
   pub at-meets : Meets 𝓤 H A (atEnded R .signature) (WpFn 𝓤 H (𝓣 .C) (𝓣 .Λ) (atFn τ f)) (closing 𝓤 H A (atEnded R) (atClauses R Fact 𝓤))
   at-meets = meets 𝓤 H A W (atEnded R) (atClauses R Fact 𝓤) (WpFn 𝓤 H (𝓣 .C) (𝓣 .Λ) (atFn τ f)) (WpFn-mono 𝓤 H (W .laws) 𝓣 (atFn τ f)) ((λ κs x l. refl), ((λ κs x l. refl), ((λ κs x l. refl), tt)))

@@ -34,6 +34,7 @@ use denote.Triple.Entry.{onEntry}
 use denote.Triple.Spec.{Meets, tripleOf}
 use denote.Triple.Clauses.{Clauses, Ended, lasts, closing}
 use denote.Exit.{yes}
+use Rattle.records.specs.declared.Cursor.{Cursor}
 use Rattle.reader.specs.declared.Reader.{Reader}
 use Rattle.reader.proofs.Answers.{answers}
 use Rattle.reader.proofs.Held.{namedAt, bytesVal, bytesOwn, placeOwn, partsOwn, readerRow, readerOwn, opens}
@@ -70,12 +71,12 @@ module _ (R : RattleType) where
     kept = (yes, (yes, tt));
   }
 
-  module _ (Fact : List ℕ → ℕ → ℕ → R .Denot → Type 0) {M : Type 1} (𝓤 : URA M) where
+  module _ (Fact : List ℕ → ℕ → Cursor → R .Denot → Type 0) {M : Type 1} (𝓤 : URA M) where
     abbrev pub methodClauses : Clauses 𝓤 methodEnded
-    methodClauses κs a = record { ghost = Unit {0}; requires = λ _. emp 𝓤; ensures = λ _ r _. fact 𝓤 (Fact (now (a .1 .0)) (a .1 .1 .0) (a .0 .at) r) }
+    methodClauses κs a = record { ghost = Unit {0}; requires = λ _. emp 𝓤; ensures = λ _ r _. fact 𝓤 (Fact (now (a .1 .0)) (a .1 .1 .0) (a .0) r) }
 
     abbrev pub nextClauses : Clauses 𝓤 nextEnded
-    nextClauses κs a = record { ghost = Unit {0}; requires = λ _. emp 𝓤; ensures = λ _ r _. fact 𝓤 (Fact (now (a .0 .table)) (a .1 .0) (a .0 .place .at) r) }
+    nextClauses κs a = record { ghost = Unit {0}; requires = λ _. emp 𝓤; ensures = λ _ r _. fact 𝓤 (Fact (now (a .0 .table)) (a .1 .0) (a .0 .place) r) }
 
     module _ (H : Heap 𝓤) (A : Atoms 𝓤) where
       abbrev pub Method : Contract 𝓤
@@ -94,7 +95,7 @@ nextFn τ f = record {
       (seq (call f (copy (place 3 []) ∷ copy (place 4 []) ∷ copy (place 2 []) ∷ []) (place 0 [])) return));
 }
 
-module _ {M : Type 1} (𝓤 : URA M) (H : Heap 𝓤) (A : Atoms 𝓤) (W : Given 𝓤 H A) (R : RattleType) (Fact : List ℕ → ℕ → ℕ → R .Denot → Type 0)
+module _ {M : Type 1} (𝓤 : URA M) (H : Heap 𝓤) (A : Atoms 𝓤) (W : Given 𝓤 H A) (R : RattleType) (Fact : List ℕ → ℕ → Cursor → R .Denot → Type 0)
     (τ : Ty) (typed : (r : R .Denot) (u : Val) → Is R r (u ∷ []) → Holds (hasTy τ u) × WT u) (f : Name) (𝓣 : Tables 𝓤 H) (known : Triple 𝓤 (𝓣 .C f) (Method R Fact 𝓤 H A)) where
   module _ (κ : Lft) (q : Share) (d : Reader) (count : ℕ) where
     abbrev at : List Val × (List Val × Unit {0})
@@ -115,7 +116,7 @@ module _ {M : Type 1} (𝓤 : URA M) (H : Heap 𝓤) (A : Atoms 𝓤) (W : Given
         assigns ! (of-opd ! (load ! (from ! (fld ! refl (stop !))) (look-in ! 6 (sub ! 0 refl (whole !))))) (from ! (stop !)) (init ! 0 refl (tt, wt .1 .0)) $ move ! (10 ∷ []) $
         -- [what the method asks; the table; …; the place; …; count; …; the reader; …; room for _0; …]
         calls-at ! (fmOf 𝓤 H (W .laws) 𝓣) (Method R Fact 𝓤 H A) known to (and-then ! (load ! (from ! (stop !)) (look ! 3 refl)) (and-then ! (load ! (from ! (stop !)) (look ! 1 refl)) (and-then ! (load ! (from ! (stop !)) (look ! 5 refl)) (no-more !)))) (λ u.
-        answers ! tt κ q R u (lasts (methodEnded R) (κ, tt) (d .place, (d .table, (count, tt)))) (Fact (now (d .table)) count (d .place .at)) (λ r told is.
+        answers ! tt κ q R u (lasts (methodEnded R) (κ, tt) (d .place, (d .table, (count, tt)))) (Fact (now (d .table)) count (d .place)) (λ r told is.
         -- [the answer; the token; the table; …; the place; …; count; …; the reader; …; room for _0; …]
         land ! (from ! (stop !)) (init ! 10 refl (typed r u is)) $ returns ! (look ! 10 refl) $ keep ! (10 ∷ 11 ∷ 8 ∷ 9 ∷ 6 ∷ 7 ∷ 4 ∷ 5 ∷ 2 ∷ 3 ∷ 0 ∷ 1 ∷ []) $
         frees-full ! $ frees-full ! $ frees-full ! $ frees-full ! $ frees-full ! $ free0 ! $

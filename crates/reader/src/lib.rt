@@ -6,9 +6,8 @@ use records::Ending;
 use records::SignalStep;
 use records::TaskStep;
 use rules::Access;
-ghost use mathlib.Core.Path.{_≡_};
-ghost use Rattle.rules.specs.Records.{taskAt, signalAt, accessAt, endAt};
-ghost use Rattle.records.specs.Said.{taskSaid, signalSaid, accessSaid, endSaid};
+ghost use Rattle.records.specs.Gives.{TaskGives, SignalGives, AccessGives, EndGives};
+ghost use Rattle.reader.specs.Gives.{ReaderGives};
 
 pub struct Reader<'a> {
     pub table: &'a [u8],
@@ -17,7 +16,7 @@ pub struct Reader<'a> {
 
 // A reader at the table's first byte.
 pub fn new<'a>(table: &'a [u8]) -> Reader<'a>
-    ensures { λ r. ⌜ r ≡ record { table = table .entry; place = record { at = 0 } } ⌝ }
+    ensures { λ r. ⌜ ReaderGives (table .entry) (record { at = 0 }) r ⌝ }
 {
     Reader {
         table,
@@ -27,7 +26,7 @@ pub fn new<'a>(table: &'a [u8]) -> Reader<'a>
 
 // The reader with its place moved on.
 pub fn moved<'a>(reader: Reader<'a>, place: Cursor) -> Reader<'a>
-    ensures { λ r. ⌜ r ≡ record { table = reader .entry .table; place = place } ⌝ }
+    ensures { λ r. ⌜ ReaderGives (reader .entry .table) place r ⌝ }
 {
     let table = reader.table;
     Reader { table, place }
@@ -35,14 +34,14 @@ pub fn moved<'a>(reader: Reader<'a>, place: Cursor) -> Reader<'a>
 
 // Asked for the next task, after `count` tasks.
 pub fn next_task<'a>(reader: Reader<'a>, count: usize) -> TaskStep
-    ensures { λ r. ⌜ taskSaid r ≡ taskAt (now (reader .entry .table)) count (reader .entry .place .at) ⌝ }
+    ensures { λ r. ⌜ TaskGives (now (reader .entry .table)) count (reader .entry .place) r ⌝ }
 {
     reader.place.task(reader.table, count)
 }
 
 // Asked for the next signal, after `count` signals.
 pub fn next_signal<'a>(reader: Reader<'a>, count: usize) -> SignalStep
-    ensures { λ r. ⌜ signalSaid r ≡ signalAt (now (reader .entry .table)) count (reader .entry .place .at) ⌝ }
+    ensures { λ r. ⌜ SignalGives (now (reader .entry .table)) count (reader .entry .place) r ⌝ }
 {
     reader.place.signal(reader.table, count)
 }
@@ -55,7 +54,7 @@ pub fn next_access<'a>(
     count: usize,
     last: Access,
 ) -> AccessStep
-    ensures { λ r. ⌜ accessSaid r ≡ accessAt (now (reader .entry .table)) tasks signals count last (reader .entry .place .at) ⌝ }
+    ensures { λ r. ⌜ AccessGives (now (reader .entry .table)) tasks signals count last (reader .entry .place) r ⌝ }
 {
     reader
         .place
@@ -64,28 +63,28 @@ pub fn next_access<'a>(
 
 // Asked for the end.
 pub fn next_end<'a>(reader: Reader<'a>) -> Ending
-    ensures { λ r. ⌜ endSaid r ≡ endAt (now (reader .entry .table)) (reader .entry .place .at) ⌝ }
+    ensures { λ r. ⌜ EndGives (now (reader .entry .table)) (reader .entry .place) r ⌝ }
 {
     reader.place.end(reader.table)
 }
 
 // A reader of the table at any place.
 pub fn placed<'a>(table: &'a [u8], place: Cursor) -> Reader<'a>
-    ensures { λ r. ⌜ r ≡ record { table = table .entry; place = place } ⌝ }
+    ensures { λ r. ⌜ ReaderGives (table .entry) place r ⌝ }
 {
     moved(new(table), place)
 }
 
 // The task at a place of the table: a reader is placed there and asked.
 pub fn task_at(table: &[u8], place: Cursor, count: usize) -> TaskStep
-    ensures { λ r. ⌜ taskSaid r ≡ taskAt (now (table .entry)) count (place .at) ⌝ }
+    ensures { λ r. ⌜ TaskGives (now (table .entry)) count place r ⌝ }
 {
     next_task(placed(table, place), count)
 }
 
 // The signal there.
 pub fn signal_at(table: &[u8], place: Cursor, count: usize) -> SignalStep
-    ensures { λ r. ⌜ signalSaid r ≡ signalAt (now (table .entry)) count (place .at) ⌝ }
+    ensures { λ r. ⌜ SignalGives (now (table .entry)) count place r ⌝ }
 {
     next_signal(placed(table, place), count)
 }
@@ -99,14 +98,14 @@ pub fn access_at(
     count: usize,
     last: Access,
 ) -> AccessStep
-    ensures { λ r. ⌜ accessSaid r ≡ accessAt (now (table .entry)) tasks signals count last (place .at) ⌝ }
+    ensures { λ r. ⌜ AccessGives (now (table .entry)) tasks signals count last place r ⌝ }
 {
     next_access(placed(table, place), tasks, signals, count, last)
 }
 
 // The end there.
 pub fn end_at(table: &[u8], place: Cursor) -> Ending
-    ensures { λ r. ⌜ endSaid r ≡ endAt (now (table .entry)) (place .at) ⌝ }
+    ensures { λ r. ⌜ EndGives (now (table .entry)) place r ⌝ }
 {
     next_end(placed(table, place))
 }

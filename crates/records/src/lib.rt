@@ -23,8 +23,8 @@ ghost use mathlib.Core.Path.{_≡_};
 ghost use Prim.Native.Nat.{_+_, _≤_};
 ghost use lib.ListN.{length};
 ghost use Rattle.rules.specs.Table.{windowed};
-ghost use Rattle.rules.specs.Records.{taskIn, rightAt, accessIn, keyOf, taskAt, signalAt, accessAt, endAt};
-ghost use Rattle.records.specs.Said.{taskSaid, signalSaid, accessSaid, endSaid};
+ghost use Rattle.rules.specs.Records.{taskIn, rightAt, accessIn, keyOf};
+ghost use Rattle.records.specs.Gives.{TaskGives, SignalGives, AccessGives, EndGives};
 
 // The bytes of each record with its mark.
 const TASK_BYTES: usize = 14;
@@ -66,7 +66,7 @@ pub enum Ending {
 impl Cursor {
     // Asked for a task, after `count` tasks.
     pub fn task(self, bytes: &[u8], count: usize) -> TaskStep
-        ensures { λ r. ⌜ taskSaid r ≡ taskAt (now (bytes .entry)) count (self .at) ⌝ }
+        ensures { λ r. ⌜ TaskGives (now (bytes .entry)) count self r ⌝ }
     {
         let at = self.at;
         if !marked(bytes, at, TK) {
@@ -92,7 +92,7 @@ impl Cursor {
 
     // Asked for a signal, after `count` signals.
     pub fn signal(self, bytes: &[u8], count: usize) -> SignalStep
-        ensures { λ r. ⌜ signalSaid r ≡ signalAt (now (bytes .entry)) count (self .at) ⌝ }
+        ensures { λ r. ⌜ SignalGives (now (bytes .entry)) count self r ⌝ }
     {
         let at = self.at;
         if !marked(bytes, at, SG) {
@@ -121,7 +121,7 @@ impl Cursor {
         count: usize,
         last: Access,
     ) -> AccessStep
-        ensures { λ r. ⌜ accessSaid r ≡ accessAt (now (bytes .entry)) tasks signals count last (self .at) ⌝ }
+        ensures { λ r. ⌜ AccessGives (now (bytes .entry)) tasks signals count last self r ⌝ }
     {
         let at = self.at;
         let right = right_at(bytes, at);
@@ -154,7 +154,7 @@ impl Cursor {
 
     // Asked for the end: a mark that no section took is unknown or out of order.
     pub fn end(self, bytes: &[u8]) -> Ending
-        ensures { λ r. ⌜ endSaid r ≡ endAt (now (bytes .entry)) (self .at) ⌝ }
+        ensures { λ r. ⌜ EndGives (now (bytes .entry)) self r ⌝ }
     {
         let at = self.at;
         if !holds(bytes, at, EN_BYTES) {

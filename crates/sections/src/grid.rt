@@ -16,13 +16,14 @@ ghost use mathlib.Core.Path.{_≡_};
 ghost use Prim.Native.Nat.{_≤_};
 ghost use Rattle.rules.specs.Table.{mostTasks, mostSignals};
 ghost use Rattle.rules.specs.Records.{End};
-ghost use Rattle.rules.specs.Reading.{joinedOf, gridFrom, gridIn};
+ghost use Rattle.rules.specs.Reading.{joinedOf, gridFrom};
+ghost use Rattle.sections.specs.Gives.{GridGives};
 
 const BOTH: u8 = READ + WRITE;
 
 // The accesses are read once more, up to their end or to the first that is refused.
 pub fn read_grid(bytes: &[u8]) -> [[u8; MOST_SIGNALS]; MOST_TASKS]
-    ensures { λ r. ⌜ r ≡ gridIn (now (bytes .entry)) ⌝ }
+    ensures { λ r. ⌜ GridGives (now (bytes .entry)) r ⌝ }
 {
     let t = read_tasks(bytes);
     let tasks_end = t.end;

@@ -1,6 +1,6 @@
 -- `reader::next_access` meets its contract, walked by hand: `Cursor::access` is called on the reader's place and its table. All that is known of that method is its contract.
 -- Assumes nothing.
-use mathlib.Core.Path.{_≡_, refl}
+use mathlib.Core.Path.{refl}
 use Prim.Native.Nat.{ℕ}
 use mathlib.Core.List.{List, [], _∷_}
 use lib.Dec.{T as Holds}
@@ -32,12 +32,10 @@ use denote.Triple.Entry.{Vals, onEntry}
 use denote.Triple.Spec.{Meets, tripleOf}
 use denote.Triple.Table.{entered, cited}
 use denote.Triple.Clauses.{lasts}
-use Rattle.rules.specs.Records.{accessAt}
 use Rattle.rules.specs.declared.Access.{Access}
 use Rattle.rules.proofs.Access as X
 use Rattle.rules.proofs.Access.Laws as X′
-use Rattle.records.specs.Said.{accessSaid}
-use Rattle.records.specs.declared.AccessStep.{AccessStep}
+use Rattle.records.specs.Gives.{AccessGives}
 use Rattle.reader.specs.declared.Reader.{Reader}
 use Rattle.reader.proofs.Answers.{answers}
 use Rattle.reader.proofs.Held.{namedAt, bytesVal}
@@ -85,7 +83,7 @@ module _ {M : Type 1} (𝓤 : URA M) (H : Heap 𝓤) (A : Atoms 𝓤) (W : Given
         assigns ! (of-opd ! (load ! (from ! (fld ! refl (stop !))) (look-in ! 12 (sub ! 0 refl (whole !))))) (from ! (stop !)) (init ! 0 refl (tt, wt .1 .0)) $ move ! (16 ∷ []) $
         -- [what the method asks; the table; …; the place; …; the other parameters; …; room for _0; …]
         calls-at ! (fmOf 𝓤 H (W .laws) 𝓣) (Method 𝓤 H A mem run) known to (and-then ! (load ! (from ! (stop !)) (look ! 3 refl)) (and-then ! (load ! (from ! (stop !)) (look ! 1 refl)) (and-then ! (load ! (from ! (stop !)) (look ! 11 refl)) (and-then ! (load ! (from ! (stop !)) (look ! 9 refl)) (and-then ! (load ! (from ! (stop !)) (look ! 7 refl)) (and-then ! (load ! (from ! (stop !)) (look ! 5 refl)) (no-more !))))))) (λ u.
-        answers ! tt κ q S.the-row u (lasts method.ended (κ, tt) (d .place, (d .table, rest))) (λ (r : AccessStep). accessSaid r ≡ accessAt (now (d .table)) tasks signals count last (d .place .at)) (λ r told is.
+        answers ! tt κ q S.the-row u (lasts method.ended (κ, tt) (d .place, (d .table, rest))) (AccessGives (now (d .table)) tasks signals count last (d .place)) (λ r told is.
         -- [the answer; the token; the table; …; the place; …; the other parameters; …; room for _0; …]
         land ! (from ! (stop !)) (init ! 16 refl (EL.lawful S.the-type S′.the-laws 𝓤 H A W tt .typed r _ is .0)) $ returns ! (look ! 16 refl) $ keep ! (16 ∷ 17 ∷ 14 ∷ 15 ∷ 12 ∷ 13 ∷ 10 ∷ 11 ∷ 8 ∷ 9 ∷ 6 ∷ 7 ∷ 4 ∷ 5 ∷ 2 ∷ 3 ∷ 0 ∷ 1 ∷ []) $
         frees-full ! $ frees-full ! $ frees-full ! $ frees-full ! $ frees-full ! $ frees-full ! $ frees-full ! $ frees-full ! $ free0 ! $
