@@ -123,13 +123,13 @@ going-on : (tab : Table) (E : Schedule) → Fits tab → Passes tab E → (cs : 
 going-on tab E F A cs m R =
     record {
       ready = R .fits;
-      read-inside = λ k s i p o. one-word (readOf m k s) _ _ (says (read k s) ∙ ap outcomeSaid (D .read-inside k s i p o));
-      write-inside = λ k s w i p o. one-answer _ (Answer.Done 0) _ 0 (says (write k s w) ∙ ap outcomeSaid (D .write-inside k s w i p o));
-      steps = one-answer _ (Answer.Done 0) _ 0 (says step ∙ ap outcomeSaid (D .steps));
-      read-outside = λ k s p o. one-word (readOf m k s) _ _ (says (read k s) ∙ ap outcomeSaid (D .read-outside k s p o));
-      write-outside = λ k s w p o. one-refusal m k s w _ outside-refuses (one-answer _ Answer.Outside _ 0 (says (write k s w) ∙ ap outcomeSaid (D .write-outside k s w p o)));
-      read-unknown = λ k s n. one-word (readOf m k s) _ _ (says (read k s) ∙ ap outcomeSaid (D .read-unknown k s n));
-      write-unknown = λ k s w n. one-refusal m k s w _ unknown-refuses (one-answer _ Answer.NoAccess _ 0 (says (write k s w) ∙ ap outcomeSaid (D .write-unknown k s w n)));
+      read-inside = λ k s i p o r g. g ∙ one-word (readOf m k s) _ _ (says (read k s) ∙ ap outcomeSaid (D .read-inside k s i p o));
+      write-inside = λ k s w i p o r g. ap (λ (x : Stepped). x .answer) g ∙ one-answer _ (Answer.Done 0) _ 0 (says (write k s w) ∙ ap outcomeSaid (D .write-inside k s w i p o));
+      steps = λ r g. ap (λ (x : Stepped). x .answer) g ∙ one-answer _ (Answer.Done 0) _ 0 (says step ∙ ap outcomeSaid (D .steps));
+      read-outside = λ k s p o r g. g ∙ one-word (readOf m k s) _ _ (says (read k s) ∙ ap outcomeSaid (D .read-outside k s p o));
+      write-outside = λ k s w p o r g. g ∙ one-refusal m k s w _ outside-refuses (one-answer _ Answer.Outside _ 0 (says (write k s w) ∙ ap outcomeSaid (D .write-outside k s w p o)));
+      read-unknown = λ k s n r g. g ∙ one-word (readOf m k s) _ _ (says (read k s) ∙ ap outcomeSaid (D .read-unknown k s n));
+      write-unknown = λ k s w n r g. g ∙ one-refusal m k s w _ unknown-refuses (one-answer _ Answer.NoAccess _ 0 (says (write k s w) ∙ ap outcomeSaid (D .write-unknown k s w n)));
     }
   where
     D : Demand3 tab E cs

@@ -17,7 +17,7 @@ use Rattle.theory.specs.Promises.{Permitted}
 use Rattle.machine.specs.declared.Machine.{Machine}
 use Rattle.machine.specs.declared.Stepped.{Stepped}
 use Rattle.machine.specs.declared.WordRead.{WordRead}
-use Rattle.machine.specs.Calls.{unloaded, fit, answered, wordRead, stepOf, readOf, writeOf}
+use Rattle.machine.specs.Calls.{unloaded, fit, answered, wordRead}
 use Rattle.machine.specs.Simulates.{Said, said, outcomeSaid}
 use Rattle.machine.specs.Load.{Loads}
 use Rattle.machine.specs.Gives.{NewGives, StepGives, ReadGives, WriteGives}
@@ -48,20 +48,20 @@ unfoldable pub storyOf : Story → List Request → Story
 storyOf h [] = h
 storyOf h (e ∷ es) = storyOf (telling h e) es
 
--- What the next call of m says, where `tab` was loaded last and h are the calls since then, the newest first.
+-- What the next call of m gives, where `tab` was loaded last and h are the calls since then, the newest first.
 pub record NextCall (tab : Table) (h : List Call) (m : Machine) : Type 0 where
   -- 25 is not given: the state is fit.
   pub ready : fit m ≡ true
   -- A permitted read inside its window is not refused, and gives the value that the signal had when the window opened.
-  pub read-inside : (k s i : ℕ) → Permitted tab (tab .reads) k s → isOpen tab k i (now h) ≡ true → readOf m k s ≡ wordRead (Answer.Done 0) (valueAt tab h s (opens tab k i))
+  pub read-inside : (k s i : ℕ) → Permitted tab (tab .reads) k s → isOpen tab k i (now h) ≡ true → (r : WordRead) → ReadGives m k s r → r ≡ wordRead (Answer.Done 0) (valueAt tab h s (opens tab k i))
   -- A permitted write inside its window is not refused, and no step is.
-  pub write-inside : (k s w i : ℕ) → Permitted tab (tab .writes) k s → isOpen tab k i (now h) ≡ true → writeOf m k s w .answer ≡ Answer.Done 0
-  pub steps : stepOf m .answer ≡ Answer.Done 0
+  pub write-inside : (k s w i : ℕ) → Permitted tab (tab .writes) k s → isOpen tab k i (now h) ≡ true → (r : Stepped) → WriteGives m k s w r → r .answer ≡ Answer.Done 0
+  pub steps : (r : Stepped) → StepGives m r → r .answer ≡ Answer.Done 0
   -- Outside its window either is refused with 24, and without such an access with 23; the machine stays as it was.
-  pub read-outside : (k s : ℕ) → Permitted tab (tab .reads) k s → ((i : ℕ) → isOpen tab k i (now h) ≡ true → ⊥) → readOf m k s ≡ wordRead Answer.Outside 0
-  pub write-outside : (k s w : ℕ) → Permitted tab (tab .writes) k s → ((i : ℕ) → isOpen tab k i (now h) ≡ true → ⊥) → writeOf m k s w ≡ answered Answer.Outside m
-  pub read-unknown : (k s : ℕ) → (Permitted tab (tab .reads) k s → ⊥) → readOf m k s ≡ wordRead Answer.NoAccess 0
-  pub write-unknown : (k s w : ℕ) → (Permitted tab (tab .writes) k s → ⊥) → writeOf m k s w ≡ answered Answer.NoAccess m
+  pub read-outside : (k s : ℕ) → Permitted tab (tab .reads) k s → ((i : ℕ) → isOpen tab k i (now h) ≡ true → ⊥) → (r : WordRead) → ReadGives m k s r → r ≡ wordRead Answer.Outside 0
+  pub write-outside : (k s w : ℕ) → Permitted tab (tab .writes) k s → ((i : ℕ) → isOpen tab k i (now h) ≡ true → ⊥) → (r : Stepped) → WriteGives m k s w r → r ≡ answered Answer.Outside m
+  pub read-unknown : (k s : ℕ) → (Permitted tab (tab .reads) k s → ⊥) → (r : WordRead) → ReadGives m k s r → r ≡ wordRead Answer.NoAccess 0
+  pub write-unknown : (k s w : ℕ) → (Permitted tab (tab .writes) k s → ⊥) → (r : Stepped) → WriteGives m k s w r → r ≡ answered Answer.NoAccess m
 
 -- After the requests es, answered by rs, the machine is m.
 pub record AsPromised (es : List Request) (rs : List Said) (m : Machine) : Type 0 where
