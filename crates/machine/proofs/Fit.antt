@@ -1,26 +1,26 @@
 -- Fit and unfit states: 25 exactly on the unfit ones, a fit state stays fit, a refusal leaves the state. Assumes nothing.
 use Prim.Native.Nat.{ℕ, _+_, _<_}
 use mathlib.Core.Path.{_≡_, refl}
-use mathlib.Core.Bool.{true}
+use mathlib.Core.Bool.{true, _||_}
 use mathlib.Core.List.{List}
 use native.Mathlib.Omega.{arith}
-use lib.Dec.{ltb, eqb}
+use lib.Dec.{leb, ltb, eqb}
 use lib.ListN.{length, getD, set, length-set, List·getD-eq-default}
 use lib.Seq.{getD-set-same, getD-set-other}
-use borrow.Author.Tests.{ltb-true, ltb-false, lt-ltb, le-leb, eqb-true, eqb-false}
-use Rattle.rules.specs.Words.{when}
+use borrow.Author.Tests.{leb-true, ltb-true, ltb-false, lt-ltb, le-leb, eqb-true, eqb-false}
+use Rattle.rules.specs.Words.{every, when}
 use Rattle.rules.specs.Table.{mostTasks, mostSignals, mostUses, words, longest}
 use Rattle.rules.specs.declared.Answer.{Answer}
-use Rattle.rows.specs.Fitness.{inBlock, firstOf, positionsFit, fitParts}
+use Rattle.rows.specs.Fitness.{none, inBlock, inUses, firstOf, positionsFit, rowFits, gridFits, fitParts}
 use Rattle.rows.specs.Rows.{lacks, useOf, publishOne, publications, atInstance, closingOf, save}
 use Rattle.rows.specs.declared.Instance.{Instance}
 use Rattle.rows.specs.declared.Place.{Place}
 use Rattle.rows.proofs.Folds.{acted-keeps}
-use Rattle.theory.proofs.Tests.{split, and-is}
+use Rattle.theory.proofs.Tests.{split, both, and-is}
 use Rattle.theory.proofs.Check.{every-at, every-is}
 use Rattle.machine.specs.declared.Machine.{Machine}
 use Rattle.machine.specs.Calls.{fit, at, closed, moved, readPlace, writePlace, readAt, writtenAt, stepOf, readOf, writeOf}
-use Rattle.machine.specs.Fit.{UnfitExact, RefusedLeaves}
+use Rattle.machine.specs.Fit.{UnfitExact, UsesInside, LeadsInside, RefusedLeaves}
 use Rattle.machine.proofs.Steps.{InBounds, fit-keeps}
 
 -- ---- positions
@@ -47,6 +47,29 @@ use-fits firsts uses t i s f =
     split (ltb (firstOf firsts t s + i) mostUses)
     (λ e. rw e (position-fits uses f (firstOf firsts t s + i)))
     (λ e. rw e)
+
+-- what a fit state has of its accesses
+uses-inside : (m : Machine) → positionsFit (m .uses) ≡ true → (firsts : List ℕ) → gridFits firsts (m .counts) ≡ true → UsesInside m firsts
+unfolding gridFits rowFits
+uses-inside m u firsts g t i s h a n l =
+    let count = getD (m .counts) t 0 in
+    let first = firstOf firsts t s in
+    let row = every-at mostTasks (λ t. rowFits firsts (getD (m .counts) t 0) t) g t h in
+    let cells = both (leb count mostUses) (every mostSignals (λ s. eqb (firstOf firsts t s) none || inUses count (firstOf firsts t s))) row .1 in
+    let cell = every-at mostSignals (λ s. eqb (firstOf firsts t s) none || inUses count (firstOf firsts t s)) cells s a in
+    let inside : inUses count first ≡ true = (rw n at cell) in
+    let end = leb-true (first + count) mostUses (both (ltb first mostUses) (leb (first + count) mostUses) inside .1) in
+    (omega arith, ltb-true (useOf firsts (m .uses) t i s) words (use-fits firsts (m .uses) t i s u))
+
+pub leads-inside : (m : Machine) → fit m ≡ true → LeadsInside m
+leads-inside m f =
+    let K = fit-keeps m f in
+    record {
+      reads = uses-inside m (K .uses) (m .reads) (K .reads);
+      writes = uses-inside m (K .uses) (m .writes) (K .writes);
+      carried = λ s. ltb-true (getD (m .carried) s 0) words (position-fits (m .carried) (K .carried) s);
+      held = λ s. ltb-true (getD (m .held) s 0) words (position-fits (m .held) (K .held) s);
+    }
 
 publish-fits : (firsts uses : List ℕ) (t i s : ℕ) → positionsFit uses ≡ true → (held : List ℕ) → positionsFit held ≡ true → positionsFit (publishOne firsts uses t i s held) ≡ true
 unfolding publishOne

@@ -1,11 +1,15 @@
 -- What document 01 says of fit and unfit states, about the definitions of the calls. Assumes nothing.
-use Prim.Native.Nat.{ℕ}
+use Prim.Native.Nat.{ℕ, _+_, _<_}
 use mathlib.Core.Path.{_≡_}
 use mathlib.Core.Bool.{true, false}
 use mathlib.Core.List.{List}
 use mathlib.Core.Logic.{_↔_}
+use lib.ListN.{getD}
 use Rattle.rules.specs.Numbers.{told, allDone}
+use Rattle.rules.specs.Table.{mostTasks, mostSignals, mostUses, words}
 use Rattle.rules.specs.declared.Answer.{Answer}
+use Rattle.rows.specs.Fitness.{firstOf}
+use Rattle.rows.specs.Rows.{lacks, useOf}
 use Rattle.machine.specs.declared.Machine.{Machine}
 use Rattle.machine.specs.declared.Stepped.{Stepped}
 use Rattle.machine.specs.Calls.{fit, stepOf, readOf, writeOf}
@@ -23,6 +27,19 @@ pub record StaysFit (m : Machine) : Type 0 where
   pub write : (task signal word : ℕ) → fit m ≡ true → fit (writeOf m task signal word .machine) ≡ true
   pub load : (table schedule : List ℕ) (r : Stepped) → Loads m table schedule r → fit m ≡ true → fit (r .machine) ≡ true
   pub accepted : (table schedule : List ℕ) (r : Stepped) → Loads m table schedule r → told (r .answer) .number ≡ allDone → fit (r .machine) ≡ true
+
+-- An instance that a task has of an access that it has: its use is inside the list of uses, and leads to a word of the block.
+abbrev pub UsesInside : Machine → (firsts : List ℕ) → Type 0
+UsesInside m firsts =
+    (t i s : ℕ) → t < mostTasks → s < mostSignals → lacks firsts t s ≡ false → i < getD (m .counts) t 0
+    → (firstOf firsts t s + i < mostUses) × (useOf firsts (m .uses) t i s < words)
+
+-- So nothing in a fit state leads outside it.
+pub record LeadsInside (m : Machine) : Type 0 where
+  pub reads : UsesInside m (m .reads)
+  pub writes : UsesInside m (m .writes)
+  pub carried : (s : ℕ) → getD (m .carried) s 0 < words
+  pub held : (s : ℕ) → getD (m .held) s 0 < words
 
 -- Every refusal leaves the state as it was, and a refused read returns word 0.
 pub record RefusedLeaves (m : Machine) : Type 0 where
