@@ -9,7 +9,7 @@ use Rattle.rules.specs.Cases.{A, D, table, writer, reader, plain, bf, wi, ri, e
 use Rattle.rules.specs.Numbers.{Told, tell, told}
 use Rattle.rules.specs.Encode.{encode}
 use Rattle.rules.specs.Reading.{readSays}
-use Rattle.rules.specs.Meaning.{Call, step, read, write}
+use Rattle.rules.specs.Meaning.{step, read, write}
 use Rattle.rules.specs.Loading.{Request, load, call, loadSays}
 use Rattle.plan.specs.Planning.{planTold, planOut}
 use Rattle.lives.specs.declared.LiveValue.{LiveValue}

@@ -8,7 +8,7 @@ use native.Mathlib.Numerals.{add-one}
 use native.Mathlib.Omega.{arith}
 use lib.ListN.{length, getD, set, take, length-take, List·getD-append}
 use lib.Seq.{take-suc, take-length}
-use Rattle.rules.specs.Windows.{Table, opens, closes, instance, instances, hyper}
+use Rattle.rules.specs.Windows.{Table, opens, closes, instances, hyper}
 use Rattle.rules.specs.Table.{mostTasks, mostElements, longest, Fits}
 use Rattle.rules.specs.Schedule.{most}
 use Rattle.rules.specs.Reading.{Grid, taskOf, writesIn, readsIn, noSignals}

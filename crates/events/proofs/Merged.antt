@@ -13,7 +13,7 @@ use Rattle.rules.specs.Windows.{Table, opens, closes, instances, hyper}
 use Rattle.rules.specs.Table.{mostTasks, Fits}
 use Rattle.rules.specs.Reading.{taskOf}
 use Rattle.rules.specs.declared.Tasks.{Tasks}
-use Rattle.theory.specs.Sweep.{closingNumber, openingNumber, taskIn, events}
+use Rattle.theory.specs.Sweep.{closingNumber, openingNumber, taskIn}
 use Rattle.theory.proofs.Tests.{split}
 use Rattle.theory.proofs.Hyper.{divides}
 use Rattle.theory.proofs.Time.{closes-le}

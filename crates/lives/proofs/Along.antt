@@ -1,6 +1,6 @@
 -- Lists gathered along the openings and closings of a hyper-period. Assumes nothing.
 use mathlib.Core.Bool.{Bool, true, false, _&&_}
-use mathlib.Core.List.{List, [], _∷_, _++_, map, flatMap, append-nil, append-assoc}
+use mathlib.Core.List.{List, [], _∷_, _++_, flatMap, append-nil, append-assoc}
 use mathlib.Core.Path.{_≡_, refl, sym, ap, ap₂, _∙_}
 use Prim.Native.Nat.{ℕ, zero, suc, _≤_, _<_}
 use native.Mathlib.Omega.{arith}
@@ -12,7 +12,7 @@ use Rattle.rules.specs.Windows.{Table, opens, closes, instance, hyper}
 use Rattle.rules.specs.Values.{Value, by, opensAt}
 use Rattle.rules.specs.Table.{mostTasks, Fits}
 use Rattle.rules.specs.Plan.{writersOf}
-use Rattle.theory.specs.Sweep.{closingNumber, openingNumber, taskIn, tickIn, isOpening, openingsAt, closingsAfter, events}
+use Rattle.theory.specs.Sweep.{closingNumber, openingNumber, taskIn, tickIn, openingsAt, closingsAfter, events}
 use Rattle.theory.proofs.Tests.{split}
 use Rattle.theory.proofs.Lists.{flat-append, flat-gather}
 use Rattle.theory.proofs.Swept.{opening-digits, closing-digits}

@@ -10,15 +10,15 @@ use lib.ListN.{length, getD, set, replicate, length-append, length-map, List·ge
 use Rattle.rules.specs.Words.{gather, only}
 use Rattle.rules.specs.Windows as windows
 use Rattle.rules.specs.Windows.{Table, opens, closes, instance}
-use Rattle.rules.specs.Values.{Value, carried, by, Life, life, IsValue}
+use Rattle.rules.specs.Values.{carried, by, Life, life}
 use Rattle.rules.specs.Table.{mostTasks, mostSignals, mostValues, mostElements, longest, Fits}
-use Rattle.rules.specs.Plan.{Placed, Line, lineOf, writersOf, valuesOf, livesOf, liveList}
+use Rattle.rules.specs.Plan.{Placed, lineOf, livesOf}
 use Rattle.rules.specs.Reading.{Grid, tableOf, taskOf, writesIn, readsIn, noGrid}
 use Rattle.rules.specs.declared.Tasks.{Tasks}
 use Rattle.rules.specs.declared.Signals.{Signals}
-use Rattle.theory.specs.Sweep.{openingNumber, closingNumber, taskIn, tickIn, isOpening, events}
+use Rattle.theory.specs.Sweep.{taskIn, tickIn, isOpening, events}
 use Rattle.theory.specs.Untils.{firstFree, hold, holding, fold, untils}
-use Rattle.theory.proofs.Tests.{split, both, holds, not-both}
+use Rattle.theory.proofs.Tests.{both, holds, not-both}
 use Rattle.theory.proofs.Time.{instance-is, closes-le}
 use Rattle.theory.proofs.Lists.{all-at}
 use Rattle.theory.proofs.Swept.{opening-digits, closing-digits}

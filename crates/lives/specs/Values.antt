@@ -5,9 +5,9 @@ use mathlib.Core.List.{List, [], _∷_, map, _++_}
 use mathlib.Core.Path.{_≡_}
 use lib.ListN.{length, getD, drop, replicate}
 use Rattle.rules.specs.Words.{gather, only}
-use Rattle.rules.specs.Windows.{Table, instance}
+use Rattle.rules.specs.Windows.{instance}
 use Rattle.rules.specs.Windows as windows
-use Rattle.rules.specs.Values.{Value, carried, by, Life}
+use Rattle.rules.specs.Values.{carried, by, Life}
 use Rattle.rules.specs.Table.{mostTasks, mostSignals, mostValues, mostElements, longest, Fits}
 use Rattle.rules.specs.Plan.{Placed, lineOf}
 use Rattle.rules.specs.Reading.{Grid, tableOf, taskOf, writesIn, readsIn}

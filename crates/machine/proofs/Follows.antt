@@ -16,7 +16,7 @@ use Rattle.rules.specs.Table.{words, Fits, mostTasks, mostSignals}
 use Rattle.rules.specs.Schedule.{Schedule, place, Passes}
 use Rattle.rules.specs.Machine.{State, stores}
 use Rattle.rules.specs.Machine as rules
-use Rattle.theory.proofs.Tests.{split, both, and-is, holds, is}
+use Rattle.theory.proofs.Tests.{split, both, and-is, holds}
 use Rattle.theory.proofs.Hyper.{period-pos}
 use Rattle.theory.proofs.Time.{instance-lt}
 use Rattle.theory.proofs.Joins.{open-mod, opens-mod, closes-mod}

@@ -13,11 +13,9 @@ use Rattle.rules.specs.Values.{carried, by, bound}
 use Rattle.rules.specs.Table.{words, Fits, mostTasks, mostSignals, mostUses, longest}
 use Rattle.rules.specs.Schedule.{Schedule, base, place, Passes}
 use Rattle.rules.specs.Answers.{checkSays}
-use Rattle.rules.specs.Reading.{Grid, taskOf, writesIn}
+use Rattle.rules.specs.Reading.{taskOf, writesIn}
 use Rattle.rules.specs.Machine.{State, each, filled, loaded}
-use Rattle.rules.specs.declared.Tasks.{Tasks}
-use Rattle.rules.specs.declared.Signals.{Signals}
-use Rattle.theory.proofs.Tests.{split, both, and-is, or-right, not-both, holds, is}
+use Rattle.theory.proofs.Tests.{split, both, and-is, or-right, not-both, holds}
 use Rattle.theory.proofs.Check.{every-is}
 use Rattle.theory.proofs.Hyper.{hyper-pos}
 use Rattle.theory.proofs.Time.{closes-le, instance-lt}

@@ -1,7 +1,7 @@
 -- The demands are met: specs/Demands.antt, proved.
 use Rattle.machine.proofs.Fit.{unfit-exact, refused-leaves}
 use Rattle.machine.proofs.Load.{stays-fit}
-use Rattle.promises.specs.Demands.{Demand1, Demand2, Demand3, Demands}
+use Rattle.promises.specs.Demands.{Demands}
 use Rattle.promises.proofs.Tables.{tables-exactly}
 use Rattle.promises.proofs.Plans.{all-plans-rightly}
 use Rattle.promises.proofs.Lists.{all-lists-rightly}

@@ -2,19 +2,17 @@
 use Prim.Native.Nat.{ℕ}
 use mathlib.Core.Path.{_≡_, sym, ap, subst, _∙_}
 use mathlib.Core.List.{List}
-use mathlib.Core.Bool.{cond}
 use mathlib.Core.Logic.{_↔_}
-use lib.Dec.{eqb}
-use Rattle.rules.specs.Windows.{Table, hyper}
+use Rattle.rules.specs.Windows.{Table}
 use Rattle.rules.specs.Table.{Fits}
-use Rattle.rules.specs.Numbers.{Told, told, tell, allDone}
+use Rattle.rules.specs.Numbers.{Told, told, allDone}
 use Rattle.rules.specs.Encode.{encode}
 use Rattle.rules.specs.Records.{End}
 use Rattle.rules.specs.Answers.{tableSays}
-use Rattle.rules.specs.Reading.{TableSaid, tableOf, gridIn, tableIn, endOf, readSays, verdict, hyperRead, tableRead}
+use Rattle.rules.specs.Reading.{tableOf, tableIn, endOf, readSays, verdict}
 use Rattle.theory.specs.First.{FirstBroken, tableRules, BrokenTable, tableTold}
 use Rattle.theory.specs.TableBytes.{SameTable, Wide}
-use Rattle.theory.proofs.Proved.{table-accepted-exactly, table-reads-back, table-says-first, whatever-is-read-keeps}
+use Rattle.theory.proofs.Proved.{table-accepted-exactly, table-reads-back, table-says-first}
 use Rattle.theory.proofs.Same.{same-hyper}
 use Rattle.table.specs.declared.reading.TableRead.{TableRead}
 use Rattle.table.specs.Gives.{TableGives}

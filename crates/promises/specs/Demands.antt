@@ -4,7 +4,6 @@
 -- the function gave. proofs/Demands.antt proves them all. Assumes nothing.
 use Prim.Native.Nat.{ℕ}
 use mathlib.Core.Path.{_≡_}
-use mathlib.Core.Bool.{true}
 use mathlib.Core.List.{List}
 use Rattle.rules.specs.Numbers.{told, allDone}
 use Rattle.rules.specs.declared.Answer.{Answer}

@@ -7,8 +7,7 @@ use lib.Dec.{eqb}
 use Rattle.rules.specs.Windows.{Table, hyper}
 use Rattle.rules.specs.Numbers.{Told, told, allDone}
 use Rattle.rules.specs.Records.{End}
-use Rattle.rules.specs.Answers.{tableSays}
-use Rattle.rules.specs.Reading.{TableSaid, tableOf, gridIn, tableIn, endOf, readSays, verdict, hyperRead, tableRead}
+use Rattle.rules.specs.Reading.{TableSaid, tableOf, gridIn, tableIn, readSays, verdict, hyperRead, tableRead}
 use Rattle.theory.proofs.Proved.{whatever-is-read-keeps}
 use Rattle.fields.proofs.Told.{told-exact}
 use Rattle.table.specs.Said.{tableSaid}

@@ -1,6 +1,6 @@
 -- Laws of a listing's lines: what is put one after the other is one line, and the page grows. Assumes nothing.
 use Prim.Native.Nat.{ℕ, _≤_}
-use mathlib.Core.Path.{_≡_, sym, ap, _∙_}
+use mathlib.Core.Path.{_≡_, ap, _∙_}
 use mathlib.Core.List.{List}
 use native.Mathlib.Omega.{arith}
 use Rattle.console.specs.Page.{Page, putOne}

@@ -15,7 +15,7 @@ use Rattle.rules.specs.Windows.{Table, opens, closes, instance, instances, hype
 use Rattle.rules.specs.Values.{Value, carried, by, signalOf, publisher, bound, opening, until, Live, IsValue}
 use Rattle.rules.specs.Table.{mostTasks, Fits}
 use Rattle.rules.specs.Schedule.{Schedule, most, elementOf}
-use Rattle.theory.specs.Sweep.{closingNumber, openingNumber, taskIn, tickIn, isOpening, openingsAt, closingsAfter, events, through, opened, closed, acted, Pass, readerOpens, writerOpens, writerCloses, started, sweep, SignalPasses, SweepExact, SweepsExact}
+use Rattle.theory.specs.Sweep.{closingNumber, openingNumber, taskIn, tickIn, isOpening, openingsAt, closingsAfter, events, through, opened, closed, acted, readerOpens, writerOpens, writerCloses, started, sweep, SignalPasses, SweepExact, SweepsExact}
 use Rattle.theory.proofs.Tests.{split, splitOption, both, is, holds, not-both}
 use Rattle.theory.proofs.Time.{highest-some, instance-lt, closes-le}
 use Rattle.theory.proofs.Bound.{bound-signal, bound-value, live-begins}

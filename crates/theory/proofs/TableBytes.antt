@@ -13,7 +13,7 @@ use Rattle.rules.specs.Fields.{TK, SG, RD, WR, EN, four, holdsAt, byteAt, markA
 use Rattle.rules.specs.Numbers.{tell}
 use Rattle.rules.specs.Encode.{encode}
 use Rattle.rules.specs.Records.{Step, End, taskAt, signalAt, rightAt, accessIn, accessAt, endAt, keyOf}
-use Rattle.rules.specs.Reading.{section, follow, from, noTasks, tasksIn, noSignals, signalsIn, signalsOf, noMarked, tableIn, ended, verdict, readSays}
+use Rattle.rules.specs.Reading.{section, from, noTasks, tasksIn, noSignals, signalsIn, signalsOf, noMarked, tableIn, ended, verdict, readSays}
 use Rattle.rules.specs.declared.Access.{Access}
 use Rattle.theory.specs.TableBytes.{SameTable, Wide, ReadsBack, AcceptedExactly, OneTable}
 use Rattle.theory.proofs.Tests.{and-is, past, here}

@@ -18,7 +18,6 @@ use types.Kit.{Given, ‵, raw, _⊛_, ⋆, _$_, _∵_, !, qed, by, move, keep, 
 use types.Part.{agg, whole, sub, look-in}
 use types.Run.{look, init, stop, fld, from, load, of-opd, and-then, no-more, assigns, returns, enter, alloc1, alloc0, params1, pass1, pass0, free0}
 use sound.WpLaws.{WpFn-mono}
-use denote.RattleType.{owns}
 use denote.Struct.Laws as LL
 use denote.Triple.Entry.{Vals, onEntry}
 use denote.Triple.Spec.{Meets, tripleOf}

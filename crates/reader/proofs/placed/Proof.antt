@@ -17,7 +17,6 @@ use contract.Running.{givenOf, tables, tablesOf}
 use types.Kit.{Given, ‵, raw, _⊛_, _$_, _∵_, !, qed, by, move, keep, use1, use2, split, fjoin}
 use types.Run.{look, init, stop, from, load, and-then, no-more, land, returns, enter, alloc1, alloc0, params1, pass1, pass0, free0}
 use sound.WpLaws.{fmOf, WpFn-mono}
-use denote.RattleType.{owns}
 use denote.Laws.{Is}
 use denote.Builtin.{u8}
 use denote.Ref.{RefT}

@@ -1,9 +1,8 @@
 -- `lengths::signals_length` meets its contract: the sum over the signals below s.
 use mathlib.Core.Path.{_≡_, refl}
-use Prim.Native.Nat.{_-_, _+_, _*_, _≤_}
+use Prim.Native.Nat.{_-_, _*_, _≤_}
 use native.Mathlib.Omega.{arith}
 use Rattle.rules.specs.Words.{total}
-use Rattle.rules.specs.Table.{longest}
 use Rattle.form.specs.Records.{longestSignal, signalBytes}
 use Rattle.form.proofs.Steps.{total-none, total-turn}
 use Rattle.form.proofs.lengths.signals_length.Statement.{statement}

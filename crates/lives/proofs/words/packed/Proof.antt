@@ -3,7 +3,6 @@ use mathlib.Core.Path.{_≡_}
 use Prim.Native.Nat.{ℕ, _*_, _-_, _≤_, _<_}
 use lib.ListN.{length, length-replicate}
 use native.Mathlib.Omega.{arith}
-use borrow.Author.Needs.{needs}
 use Rattle.rules.specs.Table.{mostValues}
 use Rattle.lives.specs.Values.{recordWords, recordIn, valueAt}
 use Rattle.lives.proofs.Packing.{one-more}
