@@ -1,11 +1,13 @@
-// The library for firmware: document 01's functions under C names. Each gives back the number of its answer, and its place through the last parameter.
+// The library for firmware: document 01's functions under C names. All but press_new give back the number of their answer; where the number has a place
+// that is not always 0, it goes through the last parameter.
 use lives::LiveValue;
 use machine::Machine;
 use rules::Answer;
 ghost use mathlib.Core.Path.{_≡_};
 ghost use Rattle.rules.specs.Numbers.{told};
+ghost use Rattle.machine.specs.Gives.{NewGives};
 ghost use Rattle.export.specs.Numbers.{numbered};
-ghost use Rattle.export.specs.Gives.{PressTableGives, PressPlanGives, PressCheckGives, PressLiveGives, PressNewGives, PressLoadGives, PressStepGives, PressReadGives, PressWriteGives};
+ghost use Rattle.export.specs.Gives.{PressTableGives, PressPlanGives, PressCheckGives, PressLiveGives, PressLoadGives, PressStepGives, PressReadGives, PressWriteGives};
 
 // Reading a table: 0, or 1 to 11.
 #[no_mangle]
@@ -72,7 +74,7 @@ pub extern "C" fn press_live(
 // A machine before its first loading, in memory that the caller lends.
 #[no_mangle]
 pub extern "C" fn press_new(machine: &mut Machine)
-    ensures { λ _. ⌜ PressNewGives (now (machine .exit)) ⌝ }
+    ensures { λ _. ⌜ NewGives (now (machine .exit)) ⌝ }
 {
     *machine = Machine::new();
 }

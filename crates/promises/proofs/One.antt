@@ -52,7 +52,6 @@ determined = record {
   press-plan = λ table out a b p q. threefold a b (p .0 ∙ sym (q .0)) (p .1 ∙ sym (q .1)) (p .2 ∙ sym (q .2));
   press-check = λ table schedule a b p q. paired a b (p .0 ∙ sym (q .0)) (p .1 ∙ sym (q .1));
   press-live = λ table signal list a b p q. threefold a b (p .0 ∙ sym (q .0)) (p .1 ∙ sym (q .1)) (p .2 ∙ sym (q .2));
-  press-new = named _;
   press-load = λ m table schedule a b p q. threefold a b (p .0 ∙ sym (q .0)) (p .1 ∙ sym (q .1)) (p .2 ∙ sym (q .2));
   press-step = λ m a b p q. paired a b (p .0 ∙ sym (q .0)) (p .1 ∙ sym (q .1));
   press-read = λ m task signal a b p q. paired a b (p .0 ∙ sym (q .0)) (p .1 ∙ sym (q .1));

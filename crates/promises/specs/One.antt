@@ -30,7 +30,7 @@ use Rattle.machine.specs.declared.Stepped.{Stepped}
 use Rattle.machine.specs.declared.WordRead.{WordRead}
 use Rattle.machine.specs.Load.{Loads}
 use Rattle.machine.specs.Gives.{NewGives, StepGives, ReadGives, WriteGives, ListsLoadGives, ListsStepGives, ListsReadGives, ListsWriteGives}
-use Rattle.export.specs.Gives.{PressTableGives, PressPlanGives, PressCheckGives, PressLiveGives, PressNewGives, PressLoadGives, PressStepGives, PressReadGives, PressWriteGives}
+use Rattle.export.specs.Gives.{PressTableGives, PressPlanGives, PressCheckGives, PressLiveGives, PressLoadGives, PressStepGives, PressReadGives, PressWriteGives}
 
 -- all that meet a contract are equal
 abbrev pub One : {A : Type 0} → (A → Type 0) → Type 0
@@ -47,7 +47,7 @@ pub record Determined : Type 1 where
   pub lent : (table : List ℕ) (signal room : ℕ) (before : LiveValue) → One (λ (r : Lived). LentGives table signal room before r)
   -- inspect::check_schedule
   pub check-schedule : (table schedule : List ℕ) → One (λ (r : Answer). CheckGives table schedule r)
-  -- machine::Machine::new
+  -- machine::Machine::new, export::press_new
   pub new : One (λ (r : Machine). NewGives r)
   -- machine::Machine::load
   pub load : (m : Machine) (table schedule : List ℕ) → One (λ (r : Stepped). Loads m table schedule r)
@@ -91,8 +91,6 @@ pub record Determined : Type 1 where
   pub press-check : (table schedule : List ℕ) → One (λ (x : ℕ × ℕ). PressCheckGives table schedule (x .0) (x .1))
   -- export::press_live
   pub press-live : (table : List ℕ) (signal : ℕ) (list : List LiveValue) → One (λ (x : ℕ × ℕ × List LiveValue). PressLiveGives table signal list (x .0) (x .1) (x .2))
-  -- export::press_new
-  pub press-new : One (λ (m : Machine). PressNewGives m)
   -- export::press_load
   pub press-load : (m : Machine) (table schedule : List ℕ) → One (λ (x : ℕ × ℕ × Machine). PressLoadGives m table schedule (x .0) (x .1) (x .2))
   -- export::press_step

@@ -29,8 +29,8 @@ ghost use Rattle.theory.specs.Sweep.{sweep};
 // A closing and an opening for each task.
 pub const KINDS: usize = TICK as usize;
 
-// What the pass keeps beside the until-ticks: no mistake was met; the element of the value that stands; the last closing of the
-// readers that opened since it was published.
+// What the pass keeps beside the until-ticks: the element of the value that stands; the last closing of the readers that opened
+// since it was published; whether no mistake was met.
 pub struct Standing {
     pub current: usize,
     pub reach: u32,
