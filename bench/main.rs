@@ -265,6 +265,16 @@ fn machine_rows() {
             || ours::write(&mut one, task, signal, 1),
             || other.write(task, signal, 1).is_ok(),
         );
+        let opens = |task: usize| other.open_instance(task).is_ok();
+        let task = (0..16).find(|&task| opens(task)).expect("an open task");
+        row(
+            "open",
+            name,
+            GOAL,
+            10,
+            || ours::open_instance(&one, task),
+            || other.open_instance(task).is_ok(),
+        );
         assert!(one == other);
     }
 }

@@ -693,24 +693,25 @@ pub fn live(bytes: &[u8], signal: usize, list: &mut [LiveValue]) -> Result<usize
 
 // The machine.
 
-/// In the order of the proved machine's fields, so that the two can be compared byte by byte.
+/// `struct press_machine`, with the parts of its numbers, so that the two can be compared byte by byte. Marked as loaded is 1.
 #[repr(C)]
 #[derive(Clone, PartialEq)]
 pub struct Machine {
-    loaded: bool,
-    hyper: u32,
-    tick: u32,
-    periods: [u32; MOST_TASKS],
-    starts: [u32; MOST_TASKS],
-    ends: [u32; MOST_TASKS],
-    counts: [u32; MOST_TASKS],
+    loaded: u16,
+    hyper: u16,
+    periods: [u16; MOST_TASKS],
+    starts: [u16; MOST_TASKS],
+    ends: [u16; MOST_TASKS],
+    counts: [u16; MOST_TASKS],
     reads: [[u16; MOST_SIGNALS]; MOST_TASKS],
     writes: [[u16; MOST_SIGNALS]; MOST_TASKS],
     uses: [u16; MOST_USES],
-    defaults: [u32; MOST_SIGNALS],
     carried: [u16; MOST_SIGNALS],
     held: [u16; MOST_SIGNALS],
-    store: [u32; WORDS],
+    tick: u16,
+    pub unused: u16,
+    pub defaults: [u32; MOST_SIGNALS],
+    pub store: [u32; WORDS],
 }
 
 /// No branch, here and below, so that the loops over these become vector code.
@@ -721,8 +722,8 @@ fn in_block(positions: &[u16]) -> bool {
 }
 
 /// Each is no access, or an index of the list of uses with so many uses from there on inside it.
-fn in_uses(firsts: &[u16], count: u32) -> bool {
-    let last = (MOST_USES as u32 - count.max(1)) as u16;
+fn in_uses(firsts: &[u16], count: u16) -> bool {
+    let last = MOST_USES as u16 - count.max(1);
     firsts
         .iter()
         .fold(true, |ok, &p| ok & ((p <= last) | (p == NONE)))
@@ -731,47 +732,51 @@ fn in_uses(firsts: &[u16], count: u32) -> bool {
 impl Machine {
     pub const fn new() -> Machine {
         Machine {
-            loaded: false,
+            loaded: 0,
             hyper: 0,
-            tick: 0,
             periods: [0; MOST_TASKS],
             starts: [0; MOST_TASKS],
             ends: [0; MOST_TASKS],
             counts: [0; MOST_TASKS],
-            reads: [[NONE; MOST_SIGNALS]; MOST_TASKS],
-            writes: [[NONE; MOST_SIGNALS]; MOST_TASKS],
+            reads: [[0; MOST_SIGNALS]; MOST_TASKS],
+            writes: [[0; MOST_SIGNALS]; MOST_TASKS],
             uses: [0; MOST_USES],
-            defaults: [0; MOST_SIGNALS],
             carried: [0; MOST_SIGNALS],
             held: [0; MOST_SIGNALS],
+            tick: 0,
+            unused: 0,
+            defaults: [0; MOST_SIGNALS],
             store: [0; WORDS],
         }
     }
 
-    /// The bytes after the first field and the room behind it: each may have any value.
+    /// Each may have any value: there is no padding.
     pub fn bytes(&mut self) -> &mut [u8] {
-        let at = std::mem::offset_of!(Machine, hyper);
-        let all = unsafe {
+        unsafe {
             std::slice::from_raw_parts_mut(
                 (self as *mut Machine).cast::<u8>(),
                 std::mem::size_of::<Machine>(),
             )
-        };
-        &mut all[at..]
+        }
     }
 
     #[inline(never)]
     pub fn load(&mut self, bytes: &[u8], schedule: &[u8]) -> Result<(), Refused> {
         let table = check(bytes, schedule)?;
-        *self = Machine::new();
-        self.loaded = true;
-        self.hyper = table.hyper;
+        *self = Machine {
+            unused: self.unused,
+            ..Machine::new()
+        };
+        self.loaded = 1;
+        self.hyper = table.hyper as u16;
+        self.reads = [[NONE; MOST_SIGNALS]; MOST_TASKS];
+        self.writes = self.reads;
         self.defaults = table.defaults;
         for (k, task) in table.tasks().iter().enumerate() {
-            self.periods[k] = task.period;
-            self.starts[k] = task.start;
-            self.ends[k] = task.end;
-            self.counts[k] = table.instances[k] as u32;
+            self.periods[k] = task.period as u16;
+            self.starts[k] = task.start as u16;
+            self.ends[k] = task.end as u16;
+            self.counts[k] = table.instances[k] as u16;
         }
         let mut used = 0;
         let mut base = 0;
@@ -806,10 +811,10 @@ impl Machine {
             firsts
                 .iter()
                 .zip(self.counts)
-                .all(|(row, count)| count <= MOST_USES as u32 && in_uses(row, count))
+                .all(|(row, count)| count <= MOST_USES as u16 && in_uses(row, count))
         };
-        self.loaded
-            && (1..=LONGEST).contains(&self.hyper)
+        self.loaded == 1
+            && (1..=LONGEST as u16).contains(&self.hyper)
             && self.tick < self.hyper
             && firsts_fit(&self.reads)
             && firsts_fit(&self.writes)
@@ -819,7 +824,7 @@ impl Machine {
     }
 
     /// The task's instance at this tick, if it is so far into its period that the test holds.
-    fn instance(&self, task: usize, test: impl Fn(u32) -> bool) -> Option<usize> {
+    fn instance(&self, task: usize, test: impl Fn(u16) -> bool) -> Option<usize> {
         let period = self.periods[task];
         if period == 0 || !test(self.tick % period) {
             return None;
@@ -898,9 +903,24 @@ impl Machine {
         if first == NONE {
             return Err(Refused(23, 0));
         }
+        Ok(self.position(first, self.inside(task)?))
+    }
+
+    /// The task's instance that is inside its window now.
+    #[inline(never)]
+    pub fn open_instance(&self, task: usize) -> Result<u16, Refused> {
+        if !self.is_fit() {
+            return Err(Refused(25, 0));
+        }
+        if self.counts.get(task).is_none_or(|&count| count == 0) {
+            return Err(Refused(23, 0));
+        }
+        self.inside(task).map(|i| i as u16)
+    }
+
+    fn inside(&self, task: usize) -> Result<usize, Refused> {
         let inside = |into| self.starts[task] <= into && into < self.ends[task];
-        let i = self.instance(task, inside).ok_or(Refused(24, 0))?;
-        Ok(self.position(first, i))
+        self.instance(task, inside).ok_or(Refused(24, 0))
     }
 
     #[inline(never)]

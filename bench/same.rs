@@ -128,10 +128,10 @@ fn same_live(table: &[u8], signal: usize, room: usize, seen: &mut [u64; 26]) {
     seen[answer.0 as usize] += 1;
 }
 
-fn word_of(answer: Result<u32, plain::Refused>) -> (u8, u32) {
+fn word_of<T: Default>(answer: Result<T, plain::Refused>) -> (u8, T) {
     match answer {
         Ok(word) => (0, word),
-        Err(plain::Refused(number, _)) => (number, 0),
+        Err(plain::Refused(number, _)) => (number, T::default()),
     }
 }
 
@@ -159,7 +159,16 @@ fn same_call(dice: &mut Dice, one: &mut plain::Machine, other: &mut plain::Machi
         dice.of(&[0, 0, 1, 2, 31, 32, usize::MAX]),
     );
     let word = dice.below(1 << 32) as u32;
-    let number = match dice.below(4) {
+    let number = match dice.below(5) {
+        4 => {
+            let (number, instance) = ours::open_instance(one, task);
+            assert_eq!(
+                (number, instance),
+                word_of(other.open_instance(task)),
+                "the open instance"
+            );
+            number
+        }
         0 => {
             let (number, word) = ours::read(one, task, signal);
             assert_eq!((number, word), word_of(other.read(task, signal)), "a read");

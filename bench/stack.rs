@@ -98,4 +98,9 @@ pub fn rows() {
         depth_of(|| ours::write(&mut one, 0, 0, 1)),
         depth_of(|| other.write(0, 0, 1).is_ok()),
     );
+    row(
+        "open",
+        depth_of(|| ours::open_instance(&one, 0)),
+        depth_of(|| other.open_instance(0).is_ok()),
+    );
 }

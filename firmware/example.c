@@ -52,6 +52,13 @@ static void writes(size_t task, size_t signal, uint32_t word)
     printf("tick %u: task %zu writes %u: %u\n", ticks, task, word, number);
 }
 
+static void opens(size_t task)
+{
+    uint16_t instance = 4711;
+    uint8_t number = press_open_instance(&machine, task, &instance);
+    printf("tick %u: task %zu is %s: %u instance %u\n", ticks, task, press_is_open(&machine, task) ? "open" : "not open", number, instance);
+}
+
 static void steps_to(unsigned tick)
 {
     while (ticks < tick) {
@@ -96,40 +103,72 @@ static void live_list(void)
     }
 }
 
+static size_t bytes_not_0(void)
+{
+    const uint8_t *bytes = (const uint8_t *)&machine;
+    size_t found = 0;
+    for (size_t i = 0; i < sizeof machine; i++) {
+        found += bytes[i] != 0;
+    }
+    return found;
+}
+
 static void unloaded(void)
 {
+    memset(&machine, 0xEE, sizeof machine);
     press_new(&machine);
-    printf("loaded %d\n", machine.loaded);
+    printf("%zu bytes, not 0: %zu\n", sizeof machine, bytes_not_0());
     printf("step: %u\n", press_step(&machine));
     reads(1, 0);
     writes(0, 0, 20);
+    opens(0);
     told("load without the last byte", press_load(&machine, table, TABLE_LENGTH, schedule, 26, &place));
-    printf("loaded %d\n", machine.loaded);
+    printf("not 0: %zu\n", bytes_not_0());
+}
+
+/* A number of the machine's, by its part. */
+static unsigned kept(enum press_part part, size_t index)
+{
+    return machine.numbers[part + index];
+}
+
+static void window(size_t task)
+{
+    printf("task %zu %u-%u/%u, instances %u\n", task, kept(PRESS_STARTS, task), kept(PRESS_ENDS, task), kept(PRESS_PERIODS, task),
+           kept(PRESS_COUNTS, task));
 }
 
 static void case_b(void)
 {
     told("load", press_load(&machine, table, TABLE_LENGTH, schedule, 27, &place));
     memset(schedule, 0, sizeof schedule);
-    printf("loaded %d, hyper %u, tick %u\n", machine.loaded, machine.hyper, machine.tick);
-    printf("task 0 %u-%u/%u, instances %u\n", machine.starts[0], machine.ends[0], machine.periods[0], machine.counts[0]);
-    printf("task 1 %u-%u/%u, instances %u\n", machine.starts[1], machine.ends[1], machine.periods[1], machine.counts[1]);
+    printf("loaded %u, hyper %u, tick %u\n", kept(PRESS_LOADED, 0), kept(PRESS_HYPER, 0), kept(PRESS_TICK, 0));
+    window(0);
+    window(1);
+    window(2);
     printf("signal 0 default %u, store %u %u %u\n", machine.defaults[0], machine.store[0], machine.store[1], machine.store[2]);
     reads(1, 0);
     steps_to(2);
+    opens(0);
     writes(0, 0, 20);
     printf("store %u %u %u\n", machine.store[0], machine.store[1], machine.store[2]);
     steps_to(4);
     reads(1, 0);
+    opens(0);
+    opens(1);
+    opens(2);
+    opens((size_t)-1);
     writes(0, 0, 21);
     reads(0, 0);
     reads(1, (size_t)-1);
     told("load of a table of no bytes", press_load(&machine, table, 0, schedule, 27, &place));
     steps_to(5);
+    opens(1);
     reads(1, 0);
     steps_to(10);
+    opens(1);
     reads(1, 0);
-    printf("the machine's tick is %u\n", machine.tick);
+    printf("the machine's tick is %u\n", kept(PRESS_TICK, 0));
     steps_to(15);
     reads(1, 0);
 }
@@ -137,12 +176,14 @@ static void case_b(void)
 static void unfit(void)
 {
     struct press_machine before;
-    machine.tick = machine.hyper;
+    uint8_t number;
+    machine.numbers[PRESS_TICK] = machine.numbers[PRESS_HYPER];
     before = machine;
-    printf("step of a state whose tick is H: %u\n", press_step(&machine));
+    number = press_step(&machine);
+    printf("step of a state whose tick is H: %u, %s\n", number, press_text(number));
     reads(1, 0);
-    printf("still loaded %d, the rest changed %d\n", machine.loaded,
-           memcmp(&before.hyper, &machine.hyper, sizeof machine - offsetof(struct press_machine, hyper)) != 0);
+    opens(1);
+    printf("changed %d\n", memcmp(&before, &machine, sizeof machine) != 0);
 }
 
 int main(void)

@@ -1,5 +1,6 @@
-//! The library in one process beside the second program: random tables, schedules and calls, each answer and all that is lent compared.
-//! `random SEED CALLS` makes CALLS calls or a few more, and prints how many gave which number.
+//! The library through its C header, in one process beside the second program: random tables, schedules, states and calls. Each answer and every byte lent is
+//! compared, the guard bytes around it too. `random SEED CALLS [bare]` makes CALLS calls or a few more, and prints how many gave which number and how many
+//! states were unfit in which way. `bare` lends memory without guard bytes, for a program that watches the heap.
 
 #![allow(dead_code)] // the second program's modules have more than is used here
 
@@ -7,6 +8,7 @@
 mod check;
 #[path = "../second/src/draft.rs"]
 mod draft;
+mod lent;
 #[path = "../second/src/lives.rs"]
 mod lives;
 #[path = "../second/src/machine.rs"]
@@ -19,34 +21,25 @@ mod random;
 mod rng;
 #[path = "../second/src/schedule.rs"]
 mod schedule;
+mod state;
+mod states;
 #[path = "../second/src/table.rs"]
 mod table;
 #[path = "../second/src/vary.rs"]
 mod vary;
 
+use lent::Lent;
 use plan::LiveRecord;
 use rng::Rng;
 use schedule::{schedule_bytes, SignalSchedule};
+use state::{Fault, State};
+use states::WAYS;
+use std::ffi::{c_char, CStr};
 use table::{read_table, Access, Refusal, Table};
-
-/// `struct press_machine` of include/press.h.
-#[repr(C)]
-#[derive(Clone, PartialEq)]
-struct State {
-    loaded: bool,
-    hyper: u32,
-    tick: u32,
-    windows: [[u32; 16]; 4],
-    accesses: [[u16; 512]; 2],
-    uses: [u16; 4096],
-    defaults: [u32; 32],
-    positions: [[u16; 32]; 2],
-    store: [u32; 256],
-}
 
 /// `struct press_live_value`.
 #[repr(C)]
-#[derive(Clone)]
+#[derive(Clone, Copy)]
 struct Value {
     task: u8,
     instance: u16,
@@ -60,50 +53,76 @@ extern "C" {
     fn press_plan(table: *const u8, length: usize, out: *mut u8, room: usize, place: *mut usize) -> u8;
     fn press_check(table: *const u8, length: usize, schedule: *const u8, bytes: usize, place: *mut usize) -> u8;
     fn press_live(table: *const u8, length: usize, signal: usize, list: *mut Value, room: usize, place: *mut usize) -> u8;
-    fn press_new(machine: *mut State);
-    fn press_load(machine: *mut State, table: *const u8, length: usize, schedule: *const u8, bytes: usize, place: *mut usize) -> u8;
-    fn press_step(machine: *mut State) -> u8;
-    fn press_read(machine: *const State, task: usize, signal: usize, word: *mut u32) -> u8;
-    fn press_write(machine: *mut State, task: usize, signal: usize, word: u32) -> u8;
+    // firmware/calls.c
+    fn c_new(machine: *mut State);
+    fn c_load(machine: *mut State, table: *const u8, length: usize, schedule: *const u8, bytes: usize, place: *mut usize) -> u8;
+    fn c_step(machine: *mut State) -> u8;
+    fn c_read(machine: *const State, task: usize, signal: usize, word: *mut u32) -> u8;
+    fn c_write(machine: *mut State, task: usize, signal: usize, word: u32) -> u8;
+    fn c_open_instance(machine: *const State, task: usize, instance: *mut u16) -> u8;
+    fn c_is_open(machine: *const State, task: usize) -> i32;
+    fn c_text(number: u32) -> *const c_char;
 }
 
-/// Numbers that no place and no word should be left at.
-const UNTOLD: usize = 987_654_321;
-const UNREAD: u32 = 987_654_321;
+/// What stands in lent memory before a call, so that a byte that a call leaves out is seen.
+const FILLER: u8 = 0xAA;
 
 /// Tasks and signals that no table has, and some that one may have.
 const FAR: [u64; 9] = [0, 1, 15, 16, 31, 32, 256, 1 << 32, u64::MAX];
 
 struct Both {
     rng: Rng,
-    library: Box<State>,
-    second: machine::Machine,
+    /// The library's machine, and what stands in it by the words of press.h.
+    machine: Lent,
+    model: State,
+    /// Nothing while the machine has a state that no loading leads to.
+    second: Option<machine::Machine>,
     calls: usize,
     answers: [usize; 26],
+    unfit: [usize; WAYS.len()],
+}
+
+/// The number of a call and the place that it leaves.
+fn placed(call: impl FnOnce(*mut usize) -> u8) -> (u8, usize) {
+    let mut place = Lent::filled(8, FILLER);
+    let number = call(place.pointer());
+    (number, place.get())
 }
 
 impl Both {
     fn new(seed: u64) -> Both {
-        let mut library = Box::new(zeroed());
-        unsafe { press_new(&mut *library) };
-        Both { rng: Rng::new(seed), library, second: machine::Machine::default(), calls: 1, answers: [0; 26] }
+        let mut machine = Lent::filled(state::BYTES, FILLER);
+        unsafe { c_new(machine.pointer()) };
+        let second = Some(machine::Machine::default());
+        let mut both =
+            Both { rng: Rng::new(seed), machine, model: State::new(), second, calls: 0, answers: [0; 26], unfit: [0; WAYS.len()] };
+        both.same("new", (0, 0), Ok(0));
+        both
     }
 
-    /// A call's number and place beside the second program's.
-    fn same(&mut self, call: &str, library: (u8, usize), second: Result<usize, Refusal>) {
-        let second = match second {
+    /// A call's number and place beside the right ones, and the machine's bytes after it.
+    fn same(&mut self, call: &str, library: (u8, usize), right: Result<usize, Refusal>) {
+        let right = match right {
             Ok(place) => (0, place),
             Err(refusal) => (refusal.number as u8, refusal.place),
         };
-        assert_eq!(library, second, "call {}: {}", self.calls, call);
+        assert_eq!(library, right, "call {}: {}", self.calls, call);
+        assert!(self.machine.bytes() == self.model.bytes(), "call {}: the machine after {}", self.calls, call);
+        assert!(self.machine.is_guarded(), "call {}: the guard bytes of the machine after {}", self.calls, call);
         self.calls += 1;
         self.answers[library.0 as usize] += 1;
     }
 
+    /// What is lent to be read stays.
+    fn kept(&self, lent: &mut Lent, bytes: &[u8]) {
+        assert!(lent.bytes() == bytes && lent.is_guarded(), "call {}: bytes lent to be read", self.calls);
+    }
+
     fn tables(&mut self, bytes: &[u8]) {
-        let mut place = UNTOLD;
-        let number = unsafe { press_table(bytes.as_ptr(), bytes.len(), &mut place) };
-        self.same("table", (number, place), read_table(bytes).map(|_| 0));
+        let mut table = Lent::of(bytes);
+        let told = placed(|place| unsafe { press_table(table.pointer(), bytes.len(), place) });
+        self.kept(&mut table, bytes);
+        self.same("table", told, read_table(bytes).map(|_| 0));
     }
 
     /// The plan in a buffer just long enough, then in one of another length; bytes beyond it and refused buffers stay.
@@ -111,21 +130,24 @@ impl Both {
         let longer = needed + 1 + self.rng.below(20);
         let other = self.rng.pick(&[0, needed / 2, needed.saturating_sub(1), longer]);
         for room in [needed, other] {
-            let mut out = vec![0xEE; room];
-            let mut expected = out.clone();
-            let mut place = UNTOLD;
-            let number = unsafe { press_plan(bytes.as_ptr(), bytes.len(), out.as_mut_ptr(), room, &mut place) };
-            let second = read_table(bytes).and_then(|table| plan::plan(&table, &mut expected));
-            self.same("plan", (number, place), second);
-            assert!(out == expected, "call {}: the planned bytes", self.calls);
+            let mut table = Lent::of(bytes);
+            let mut out = Lent::filled(room, FILLER);
+            let mut right = vec![FILLER; room];
+            let told = placed(|place| unsafe { press_plan(table.pointer(), bytes.len(), out.pointer(), room, place) });
+            let second = read_table(bytes).and_then(|table| plan::plan(&table, &mut right));
+            self.kept(&mut table, bytes);
+            assert!(out.bytes() == right && out.is_guarded(), "call {}: the planned bytes", self.calls);
+            self.same("plan", told, second);
         }
     }
 
     fn checks(&mut self, bytes: &[u8], schedule: &[u8]) {
-        let mut place = UNTOLD;
-        let number = unsafe { press_check(bytes.as_ptr(), bytes.len(), schedule.as_ptr(), schedule.len(), &mut place) };
+        let (mut table, mut lent) = (Lent::of(bytes), Lent::of(schedule));
+        let told = placed(|place| unsafe { press_check(table.pointer(), bytes.len(), lent.pointer(), schedule.len(), place) });
+        self.kept(&mut table, bytes);
+        self.kept(&mut lent, schedule);
         let second = read_table(bytes).and_then(|table| check::check(&table, schedule));
-        self.same("check", (number, place), second.map(|_| 0));
+        self.same("check", told, second.map(|_| 0));
     }
 
     /// The live list of a signal in a list of some length; records beyond it and refused lists stay.
@@ -136,57 +158,83 @@ impl Both {
         let writers = |table: &Table| if signal < signals as u64 { table.users(signal as usize, Access::Write).len() } else { 0 };
         let needed = 1 + table.as_ref().map_or(0, writers);
         let room = self.rng.pick(&[needed, needed, needed - 1, needed + 3, 0]);
-        let mut list = vec![Value { task: 170, instance: 43_690, from: 1, until: 2, element: 170 }; room];
-        let mut expected: Vec<LiveRecord> = list.iter().map(record).collect();
-        let mut place = UNTOLD;
-        let number = unsafe { press_live(bytes.as_ptr(), bytes.len(), signal as usize, list.as_mut_ptr(), room, &mut place) };
-        let second = table.and_then(|table| plan::live_list(&table, signal, &mut expected));
-        self.same("live", (number, place), second);
-        assert_eq!(list.iter().map(record).collect::<Vec<_>>(), expected, "call {}: the live list", self.calls);
+        let mut lent = Lent::of(bytes);
+        let mut list = Lent::filled(room * std::mem::size_of::<Value>(), FILLER);
+        let mut right: Vec<LiveRecord> = (0..room).map(|at| record(&mut list, at)).collect();
+        let told = placed(|place| unsafe { press_live(lent.pointer(), bytes.len(), signal as usize, list.pointer(), room, place) });
+        let second = table.and_then(|table| plan::live_list(&table, signal, &mut right));
+        self.kept(&mut lent, bytes);
+        let left: Vec<LiveRecord> = (0..room).map(|at| record(&mut list, at)).collect();
+        assert_eq!(left, right, "call {}: the live list", self.calls);
+        let filled = *second.as_ref().unwrap_or(&0) * std::mem::size_of::<Value>();
+        assert!(list.bytes()[filled..].iter().all(|byte| *byte == FILLER), "call {}: records beyond the list", self.calls);
+        assert!(list.is_guarded(), "call {}: the guard bytes of the list", self.calls);
+        self.same("live", told, second);
     }
 
     fn load(&mut self, bytes: &[u8], schedule: &[u8]) -> bool {
-        let before = self.library.clone();
-        let mut place = UNTOLD;
-        let number = unsafe { press_load(&mut *self.library, bytes.as_ptr(), bytes.len(), schedule.as_ptr(), schedule.len(), &mut place) };
-        let second = read_table(bytes).and_then(|table| self.second.load(&table, schedule));
-        self.unchanged_if_refused(&before, number);
-        self.same("load", (number, place), second.map(|_| 0));
-        number == 0
+        let (mut table, mut lent) = (Lent::of(bytes), Lent::of(schedule));
+        let machine = self.machine.pointer();
+        let told = placed(|place| unsafe { c_load(machine, table.pointer(), bytes.len(), lent.pointer(), schedule.len(), place) });
+        self.kept(&mut table, bytes);
+        self.kept(&mut lent, schedule);
+        let right = read_table(bytes).and_then(|table| check::check(&table, schedule).map(|parts| (table, parts)));
+        if let Ok((table, parts)) = &right {
+            self.model.load(table, parts);
+            let second = self.second.get_or_insert_default();
+            assert!(second.load(table, schedule).is_ok());
+        }
+        self.same("load", told, right.map(|_| 0));
+        told.0 == 0
+    }
+
+    /// The second program has its say where the state comes from a loading.
+    fn agrees<T: PartialEq + std::fmt::Debug>(
+        &mut self,
+        right: &Result<T, Refusal>,
+        call: impl FnOnce(&mut machine::Machine) -> Result<T, Refusal>,
+    ) {
+        if let Some(second) = &mut self.second {
+            assert_eq!(*right, call(second), "call {}: the words of press.h and the second program", self.calls);
+        }
     }
 
     fn step(&mut self) {
-        let before = self.library.clone();
-        let number = unsafe { press_step(&mut *self.library) };
-        let second = self.second.step();
-        self.unchanged_if_refused(&before, number);
-        self.same("step", (number, 0), second.map(|_| 0));
+        let number = unsafe { c_step(self.machine.pointer()) };
+        let right = self.model.step();
+        self.agrees(&right, |second| second.step());
+        self.same("step", (number, 0), right.map(|_| 0));
     }
 
     fn read(&mut self, task: u64, signal: u64) {
-        let before = self.library.clone();
-        let mut word = UNREAD;
-        let number = unsafe { press_read(&*self.library, task as usize, signal as usize, &mut word) };
-        let second = self.second.read(task, signal);
-        assert!(*before == *self.library, "call {}: a read changed the machine", self.calls);
-        assert_eq!(word, *second.as_ref().unwrap_or(&0), "call {}: the word read", self.calls);
-        self.same("read", (number, 0), second.map(|_| 0));
+        let mut word = Lent::filled(4, FILLER);
+        let number = unsafe { c_read(self.machine.pointer(), task as usize, signal as usize, word.pointer()) };
+        let right = self.model.read(task, signal);
+        assert_eq!(word.get::<u32>(), *right.as_ref().unwrap_or(&0), "call {}: the word read", self.calls);
+        self.agrees(&right, |second| second.read(task, signal));
+        self.same("read", (number, 0), right.map(|_| 0));
     }
 
     fn write(&mut self, task: u64, signal: u64) {
-        let before = self.library.clone();
         let word = random::word(&mut self.rng);
-        let number = unsafe { press_write(&mut *self.library, task as usize, signal as usize, word) };
-        let second = self.second.write(task, signal, word);
-        self.unchanged_if_refused(&before, number);
-        self.same("write", (number, 0), second.map(|_| 0));
+        let number = unsafe { c_write(self.machine.pointer(), task as usize, signal as usize, word) };
+        let right = self.model.write(task, signal, word);
+        self.agrees(&right, |second| second.write(task, signal, word));
+        self.same("write", (number, 0), right.map(|_| 0));
     }
 
-    fn unchanged_if_refused(&self, before: &State, number: u8) {
-        assert!(number == 0 || *before == *self.library, "call {}: a refusal changed the machine", self.calls);
+    fn opens(&mut self, task: u64) {
+        let mut instance = Lent::filled(2, FILLER);
+        let machine = self.machine.pointer();
+        let number = unsafe { c_open_instance(machine, task as usize, instance.pointer()) };
+        let right = self.model.open_instance(task);
+        assert_eq!(instance.get::<u16>(), *right.as_ref().unwrap_or(&0), "call {}: the open instance", self.calls);
+        assert_eq!(unsafe { c_is_open(machine, task as usize) }, right.is_ok() as i32, "call {}: whether it is open", self.calls);
+        self.agrees(&right, |second| second.open(task).map(|instance| instance as u16));
+        self.same("open", (number, 0), right.map(|_| 0));
     }
 
-    /// A read or write, mostly of an access that the table has.
+    /// A read or write, mostly of an access that the table has, or whether a task is open.
     fn access(&mut self, table: &Table) {
         let (task, signal, access) = if table.accesses.is_empty() || self.rng.one_in(12) {
             (self.rng.pick(&FAR), self.rng.pick(&FAR), self.rng.pick(&[Access::Read, Access::Write]))
@@ -195,6 +243,7 @@ impl Both {
             (task as u64, signal as u64, access)
         };
         match access {
+            _ if self.rng.one_in(6) => self.opens(task),
             Access::Read => self.read(task, signal),
             Access::Write => self.write(task, signal),
         }
@@ -251,38 +300,97 @@ impl Both {
             _ => schedule_bytes(&vary::passing(&mut self.rng, table).unwrap_or(plan.to_vec())),
         }
     }
+
+    /// The machine gets a state that no loading leads to.
+    fn put(&mut self, state: &State) {
+        self.machine.bytes().copy_from_slice(state.bytes());
+        self.model = state.clone();
+        self.second = None;
+    }
+
+    /// A call with any task and signal.
+    fn any(&mut self) {
+        let (task, signal) = (self.rng.below(17) as u64, self.rng.below(33) as u64);
+        match self.rng.below(6) {
+            0 => self.read(task, signal),
+            1 => self.write(task, signal),
+            2 => self.opens(task),
+            _ => self.step(),
+        }
+    }
+
+    /// A fit state run for a while, then with numbers changed one by one, then unfit in one way.
+    fn states(&mut self) {
+        let fit = states::fit(&mut self.rng);
+        assert_eq!(fit.faults(), [], "a state that was to be fit");
+        self.put(&fit);
+        (0..20).for_each(|_| self.any());
+        let mut changed = self.model.clone();
+        for _ in 0..10 {
+            let before = changed.clone();
+            states::nudge(&mut self.rng, &mut changed);
+            self.put(&changed);
+            (0..2).for_each(|_| self.any());
+            changed = if self.model.faults().is_empty() { self.model.clone() } else { before };
+        }
+        self.spoiled(changed);
+    }
+
+    /// Each way in its turn.
+    fn spoiled(&mut self, mut state: State) {
+        let way = self.unfit.iter().sum::<usize>() % WAYS.len();
+        let (name, fault, spoil) = WAYS[way];
+        spoil(&mut self.rng, &mut state);
+        // no tick is below a hyper-period of 0
+        let faults = if state.hyper == 0 { vec![fault, Fault::Tick] } else { vec![fault] };
+        assert_eq!(state.faults(), faults, "a state that was to have: {name}");
+        self.put(&state);
+        let refused = self.answers[25];
+        self.step();
+        (0..4).for_each(|_| self.any());
+        assert_eq!(self.answers[25], refused + 5, "a state that is not fit: {name}");
+        self.unfit[way] += 1;
+    }
 }
 
-fn record(value: &Value) -> LiveRecord {
+/// The record at an index of a lent list.
+fn record(list: &mut Lent, at: usize) -> LiveRecord {
+    let value: Value = unsafe { list.pointer::<Value>().add(at).read() };
     LiveRecord { task: value.task, instance: value.instance, from: value.from, until: value.until, element: value.element }
 }
 
-fn zeroed() -> State {
-    State {
-        loaded: false,
-        hyper: 0,
-        tick: 0,
-        windows: [[0; 16]; 4],
-        accesses: [[0; 512]; 2],
-        uses: [0; 4096],
-        defaults: [0; 32],
-        positions: [[0; 32]; 2],
-        store: [0; 256],
-    }
+/// Each number has words of its own, and no other number has any.
+fn texts() {
+    let text = |number| unsafe { CStr::from_ptr(c_text(number)) }.to_str().expect("plain letters");
+    let other = text(26);
+    let mut seen: Vec<&str> = (0..26).map(text).filter(|words| !words.is_empty() && *words != other).collect();
+    seen.sort();
+    seen.dedup();
+    assert_eq!((seen.len(), text(255)), (26, other), "the words for the numbers");
 }
 
-fn main() {
-    assert_eq!(std::mem::size_of::<State>(), 11_788);
-    let numbers: Vec<u64> = std::env::args().skip(1).map(|word| word.parse().expect("random SEED CALLS")).collect();
-    let [seed, calls] = numbers[..] else { panic!("random SEED CALLS") };
+/// What `main` of firmware/calls.c calls: so a C compiler links the whole, with its sanitizers where it is told to.
+#[no_mangle]
+pub extern "C" fn random_calls() {
+    assert_eq!(state::BYTES, 11_656);
+    let words: Vec<String> = std::env::args().skip(1).collect();
+    let usage = "random SEED CALLS [bare]";
+    let [seed, calls] = [0, 1].map(|at| words.get(at).and_then(|word| word.parse().ok()).expect(usage));
+    match words[2..] {
+        [] => {}
+        [ref word] if word == "bare" => lent::without_guards(),
+        _ => panic!("{usage}"),
+    }
+    texts();
     let mut both = Both::new(seed);
     // before the first loading
-    both.step();
-    both.read(0, 0);
-    both.write(0, 0);
-    while both.calls < calls as usize {
+    (0..20).for_each(|_| both.any());
+    while (both.calls as u64) < calls {
         both.round();
+        both.states();
     }
     let answers: Vec<String> = (0..26).filter(|n| both.answers[*n] > 0).map(|n| format!("{}: {}", n, both.answers[n])).collect();
     println!("{} calls, all alike; by number {}", both.calls, answers.join(", "));
+    let unfit: Vec<String> = WAYS.iter().zip(both.unfit).map(|((name, ..), times)| format!("{name}: {times}")).collect();
+    println!("states that are not fit: {}", unfit.join("; "));
 }

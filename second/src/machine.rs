@@ -80,6 +80,17 @@ impl Machine {
         loaded.store[index] = word;
         Ok(())
     }
+
+    /// The instance of the task that is inside its window: 25, 23, then 24.
+    pub fn open(&self, task: u64) -> Result<u32, Refusal> {
+        let Some(loaded) = &self.loaded else {
+            return refuse(25, 0);
+        };
+        if task >= loaded.tasks.len() as u64 {
+            return refuse(23, 0);
+        }
+        loaded.inside(task as usize)
+    }
 }
 
 fn kept_signal(table: &Table, signal: usize, part: &SignalSchedule, base: usize) -> Signal {
@@ -153,7 +164,6 @@ impl Loaded {
         if task >= self.tasks.len() as u64 || signal >= self.signals.len() as u64 {
             return refuse(23, 0);
         }
-        let window = self.tasks[task as usize];
         let signal = &self.signals[signal as usize];
         let kept = if access == Access::Read {
             &signal.reads
@@ -163,11 +173,17 @@ impl Loaded {
         let Some(elements) = &kept[task as usize] else {
             return refuse(23, 0);
         };
+        let instance = self.inside(task as usize)?;
+        Ok(signal.base + elements[instance as usize] as usize)
+    }
+
+    fn inside(&self, task: usize) -> Result<u32, Refusal> {
+        let window = self.tasks[task];
         let inside = self.tick % window.period;
         if inside < window.start || inside >= window.end {
             return refuse(24, 0);
         }
-        Ok(signal.base + elements[(self.tick / window.period) as usize] as usize)
+        Ok(self.tick / window.period)
     }
 }
 

@@ -12,7 +12,7 @@ use crate::plan::{live_list, plan_schedule, LiveRecord};
 use crate::random::{self, Limits};
 use crate::rng::Rng;
 use crate::schedule::{schedule_bytes, SignalSchedule};
-use crate::table::{read_table, Access, Refusal, Table};
+use crate::table::{read_table, refuse, Access, Instance, Refusal, Table};
 use crate::vary::{passing, variant};
 
 const TABLES: u64 = 6_000;
@@ -194,7 +194,9 @@ fn judged(tally: &mut Tally, seed: u64, table: &Table, judge: &Judge, bytes: &[u
 /// Machine and model over several hyper-periods with accepted and refused calls.
 fn reads_agree(tally: &mut Tally, seed: u64, rng: &mut Rng, table: &Table, schedule: &[u8]) {
     let mut machine = Machine::default();
-    let before = refusal(machine.step()) == (25, 0) && refusal(machine.read(0, 0)) == (25, 0);
+    let before = refusal(machine.step()) == (25, 0)
+        && refusal(machine.read(0, 0)) == (25, 0)
+        && refusal(machine.open(0)) == (25, 0);
     let loaded = machine.load(table, schedule).is_ok();
     tally.expect(before && loaded, || format!("seed {}: loading", seed));
     let mut model = Model::new(table);
@@ -203,6 +205,11 @@ fn reads_agree(tally: &mut Tally, seed: u64, rng: &mut Rng, table: &Table, sched
         let agree = calls_agree(rng, table, &mut machine, &mut model);
         tally.expect(agree, || {
             format!("seed {}: machine and model differ at tick {}", seed, tick)
+        });
+        let task = rng.below(18);
+        let open = open_by_windows(table, tick % table.hyper, task);
+        tally.expect(machine.open(task as u64) == open, || {
+            format!("seed {}: task {} at tick {}", seed, task, tick)
         });
         if rng.one_in(40) {
             let refused = machine
@@ -213,6 +220,23 @@ fn reads_agree(tally: &mut Tally, seed: u64, rng: &mut Rng, table: &Table, sched
         tally.expect(machine.step().is_ok(), || format!("seed {}: step", seed));
         model.step();
     }
+}
+
+/// The instance that has opened and not closed, instance by instance.
+fn open_by_windows(table: &Table, tick: u32, task: usize) -> Result<u32, Refusal> {
+    if task >= table.tasks.len() {
+        return refuse(23, 0);
+    }
+    let inside = |number: &u32| {
+        let instance = Instance {
+            task,
+            number: *number,
+        };
+        table.opening(instance) <= tick && tick < table.closing(instance)
+    };
+    (0..table.instances(task))
+        .find(inside)
+        .map_or(refuse(24, 0), Ok)
 }
 
 fn calls_agree(rng: &mut Rng, table: &Table, machine: &mut Machine, model: &mut Model) -> bool {

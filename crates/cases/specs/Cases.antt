@@ -1,4 +1,5 @@
--- Cases A to J of document 01 about what the public functions give by their contracts, from bytes to bytes: one statement over one list.
+-- Cases A and C to J of document 01 about what the public functions give by their contracts, from bytes to bytes: one statement over one list. Case B, the
+-- machine's, is in rules/specs/Cases from bytes too, and promises/specs/Runs says that the code's machine replies as that one does.
 -- So a check that refuses all (A) does not meet its contract, nor one that passes all (H, I). Assumes nothing.
 use Prim.Native.Nat.{ℕ}
 use mathlib.Core.Path.{_≡_}
@@ -6,57 +7,32 @@ use mathlib.Core.List.{List, [], _∷_, _++_, map}
 use lib.ListN.{length, replicate}
 use Rattle.rules.specs.Windows.{Table}
 use Rattle.rules.specs.Cases.{A, D, table, writer, reader, plain, bf, wi, ri, en, bytes-A, bytes-D}
-use Rattle.rules.specs.Numbers.{Told, tell, told}
+use Rattle.rules.specs.Numbers.{Told, tell}
 use Rattle.rules.specs.Encode.{encode}
 use Rattle.rules.specs.Reading.{readSays}
-use Rattle.rules.specs.Meaning.{step, read, write}
-use Rattle.rules.specs.Loading.{Request, load, call, loadSays}
+use Rattle.rules.specs.Loading.{loadSays}
 use Rattle.plan.specs.Planning.{planTold, planOut}
 use Rattle.lives.specs.declared.LiveValue.{LiveValue}
 use Rattle.lives.specs.Lives.{liveTold, liveOut}
-use Rattle.machine.specs.declared.Machine.{Machine}
-use Rattle.machine.specs.Simulates.{Said, said}
-use Rattle.machine.specs.Calls.{unloaded, stepOf, readOf, writeOf}
-use Rattle.machine.specs.Load.{loadLeaves}
 
--- what is asked: of `read_table`, of `plan` with the lent buffer, of `live_list` with the lent list, of `check_schedule`, and of a machine, from `new` on
+-- what is asked: of `read_table`, of `plan` with the lent buffer, of `live_list` with the lent list, and of `check_schedule`
 pub data Asked : Type 0 where
   reading : (table : List ℕ) → Asked
   planning : (table out : List ℕ) → Asked
   listing : (table : List ℕ) (signal : ℕ) (list : List LiveValue) → Asked
   checking : (table schedule : List ℕ) → Asked
-  running : List Request → Asked
 
--- number and place, with what is left in what was lent; of a machine, number, place and word of each answer
+-- number and place, with what is left in what was lent
 pub data Given : Type 0 where
   tells : Told → Given
   writes : Told → (out : List ℕ) → Given
   fills : Told → (list : List LiveValue) → Given
-  says : List Said → Given
-
--- one request of a machine: what it says, and the machine after it
-abbrev pub saidBy : Machine → Request → Said
-saidBy m (load table schedule) = said (loadSays table schedule) 0
-saidBy m (call step) = said (told (stepOf m .answer)) 0
-saidBy m (call (read k s)) = said (told (readOf m k s .answer)) (readOf m k s .word)
-saidBy m (call (write k s w)) = said (told (writeOf m k s w .answer)) 0
-
-abbrev pub leftBy : Machine → Request → Machine
-leftBy m (load table schedule) = loadLeaves m table schedule
-leftBy m (call step) = stepOf m .machine
-leftBy m (call (read k s)) = m
-leftBy m (call (write k s w)) = writeOf m k s w .machine
-
-unfoldable pub saidAll : Machine → List Request → List Said
-saidAll m [] = []
-saidAll m (e ∷ es) = saidBy m e ∷ saidAll (leftBy m e) es
 
 abbrev pub given : Asked → Given
 given (reading t) = tells (readSays t)
 given (planning t out) = writes (planTold t (length out)) (planOut t out)
 given (listing t s list) = fills (liveTold t s (length list)) (liveOut t s list)
 given (checking t e) = tells (loadSays t e)
-given (running es) = says (saidAll unloaded es)
 
 pub record Case : Type 0 where
   pub asked : Asked
@@ -91,31 +67,6 @@ F = table 2 1 (writer 0 5 5 ∷ writer 0 10 10 ∷ [])
 abbrev G : Table
 G = table 2 1 (writer 0 4 10 ∷ writer 2 6 10 ∷ [])
 
-abbrev steps : ℕ → List Request
-steps n = replicate n (call step)
-
--- B: refused before any loading; A loaded, read at 0, written at 2, read at 4, at 5 (after a loading that is refused) and at 10, and with no write at 15
-abbrev requests-B : List Request
-requests-B =
-    call (read 1 0) ∷ load (encode A) (bytes-A 0) ∷ call step ∷ load (encode A) (bytes-A 1) ∷ call (read 1 0)
-    ∷ steps 2 ++ call (write 0 0 20) ∷ steps 2 ++ call (read 1 0) ∷ call (write 0 0 9) ∷ call step ∷ load [] (bytes-A 1) ∷ call (read 1 0) ∷ call (read 1 1)
-    ∷ steps 5 ++ call (read 1 0) ∷ steps 5 ++ call (read 1 0) ∷ []
-
-abbrev done : Said
-done = said (tell 0 0) 0
-
-abbrev word : ℕ → Said
-word w = said (tell 0 0) w
-
-abbrev refused : ℕ → ℕ → Said
-refused n p = said (tell n p) 0
-
-abbrev answers-B : List Said
-answers-B =
-    refused 25 0 ∷ refused 21 18 ∷ refused 25 0 ∷ done ∷ word 7
-    ∷ replicate 2 done ++ done ∷ replicate 2 done ++ word 7 ∷ refused 24 0 ∷ done ∷ refused 1 0 ∷ word 20 ∷ refused 23 0
-    ∷ replicate 5 done ++ word 20 ∷ replicate 5 done ++ word 7 ∷ []
-
 abbrev pub cases : List Case
 cases =
     -- A: 27 bytes at the front, a byte after them stays; one byte short is refused
@@ -125,8 +76,6 @@ cases =
     ∷ case (listing (encode A) 0 (replicate 1 blank)) (fills (tell 14 2) (replicate 1 blank))
     ∷ case (listing (encode A) 1 (replicate 3 blank)) (fills (tell 23 0) (replicate 3 blank))
     ∷ case (checking (encode A) (bytes-A 1)) (tells (tell 0 0))
-    -- B
-    ∷ case (running requests-B) (says answers-B)
     -- C, D, E and G: their counts and elements
     ∷ case (planning (encode C) (replicate 20 0)) (writes (tell 0 20) (bf 2 ++ wi 0 0 1 ++ ri 1 0 1 ++ en))
     ∷ case (planning (encode D) (replicate 27 0)) (writes (tell 0 27) (bytes-D 0))

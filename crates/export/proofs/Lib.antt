@@ -1,4 +1,1 @@
-pub mod Lent
-pub mod Fields
-pub mod Parts
 pub mod Walks

@@ -10,9 +10,7 @@ use Rattle.rules.specs.Loading.{loadSays}
 use Rattle.plan.specs.Planning.{planTold, planOut}
 use Rattle.lives.specs.declared.LiveValue.{LiveValue}
 use Rattle.lives.specs.Lives.{liveTold, liveOut}
-use Rattle.machine.specs.declared.Machine.{Machine}
-use Rattle.machine.specs.declared.Stepped.{Stepped}
-use Rattle.machine.specs.Calls.{stepOf, readOf, writeOf}
+use Rattle.machine.specs.Calls.{keeping, unloaded, Left, stepIn, readIn, writeIn, openIn}
 use Rattle.machine.specs.Load.{loadLeaves}
 
 -- the number and the place of what is told
@@ -23,9 +21,9 @@ Tells t number place = (number ≡ t .number) × (place ≡ t .place)
 abbrev TellsAndLeaves : {A : Type 0} → Told → A → (number place : ℕ) → (after : A) → Type 0
 TellsAndLeaves t left number place after = (number ≡ t .number) × (place ≡ t .place) × (after ≡ left)
 
--- the number of a call's answer, whose place is 0, and the machine after it
-abbrev Steps : Stepped → (number : ℕ) → (after : Machine) → Type 0
-Steps r number after = (number ≡ told (r .answer) .number) × (after ≡ r .machine)
+-- the number of a call's answer, whose place is 0, and the lists that it may change as it leaves them
+abbrev Leaves : Left → (number : ℕ) → (numbers store : List ℕ) → Type 0
+Leaves l number n s = (number ≡ told (l .answer) .number) × (n ≡ l .numbers) × (s ≡ l .store)
 
 -- ---- tables and schedules
 
@@ -41,17 +39,25 @@ PressCheckGives table schedule = Tells (loadSays table schedule)
 abbrev pub PressLiveGives : (table : List ℕ) (signal : ℕ) (list : List LiveValue) → (number place : ℕ) → (after : List LiveValue) → Type 0
 PressLiveGives table signal list = TellsAndLeaves (liveTold table signal (length list)) (liveOut table signal list)
 
--- ---- the machine; that of `press_new` is `NewGives`
+-- ---- the machine: the lists that are lent, what is given back, and the lists after the call
 
-abbrev pub PressLoadGives : Machine → (table schedule : List ℕ) → (number place : ℕ) → (after : Machine) → Type 0
-PressLoadGives m table schedule = TellsAndLeaves (loadSays table schedule) (loadLeaves m table schedule)
+abbrev pub PressNewGives : (numbers′ defaults′ store′ : List ℕ) → Type 0
+PressNewGives n′ d′ s′ = keeping n′ d′ s′ ≡ unloaded
 
-abbrev pub PressStepGives : Machine → (number : ℕ) → (after : Machine) → Type 0
-PressStepGives m = Steps (stepOf m)
+abbrev pub PressLoadGives : (numbers defaults store table schedule : List ℕ) → (number place : ℕ) → (numbers′ defaults′ store′ : List ℕ) → Type 0
+PressLoadGives n d s table schedule number place n′ d′ s′ = TellsAndLeaves (loadSays table schedule) (loadLeaves (keeping n d s) table schedule) number place (keeping n′ d′ s′)
 
--- a read leaves the machine, and gives a word
-abbrev pub PressReadGives : Machine → (task signal : ℕ) → (number word : ℕ) → Type 0
-PressReadGives m task signal number word = (number ≡ told (readOf m task signal .answer) .number) × (word ≡ readOf m task signal .word)
+abbrev pub PressStepGives : (numbers defaults store : List ℕ) → (number : ℕ) → (numbers′ store′ : List ℕ) → Type 0
+PressStepGives n d s = Leaves (stepIn n d s)
 
-abbrev pub PressWriteGives : Machine → (task signal word : ℕ) → (number : ℕ) → (after : Machine) → Type 0
-PressWriteGives m task signal word = Steps (writeOf m task signal word)
+-- a read leaves the lists, and gives a word
+abbrev pub PressReadGives : (numbers store : List ℕ) → (task signal : ℕ) → (number word : ℕ) → Type 0
+PressReadGives n s task signal number word = (number ≡ told (readIn n s task signal .answer) .number) × (word ≡ readIn n s task signal .word)
+
+-- a write leaves the numbers
+abbrev pub PressWriteGives : (numbers store : List ℕ) → (task signal word : ℕ) → (number : ℕ) → (store′ : List ℕ) → Type 0
+PressWriteGives n s task signal word number = Leaves (writeIn n s task signal word) number n
+
+-- the open instance of a task
+abbrev pub PressOpenGives : (numbers : List ℕ) → (task : ℕ) → (number instance : ℕ) → Type 0
+PressOpenGives n task number instance = (number ≡ told (openIn n task .answer) .number) × (instance ≡ openIn n task .instance)

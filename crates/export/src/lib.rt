@@ -1,13 +1,15 @@
-// The library for firmware: document 01's functions under C names. All but press_new give back the number of their answer; where the number has a place
-// that is not always 0, it goes through the last parameter.
+// The library for firmware: document 01's functions under C names. All but press_lists_new give back the number of their answer; where the number has a
+// place that is not always 0, it goes through the last parameter. A machine is the three lists that its caller lends.
 use lives::LiveValue;
-use machine::Machine;
+use machine::lists;
 use rules::Answer;
+use rules::MOST_SIGNALS;
+use rules::WORDS;
+use state::NUMBERS;
 ghost use mathlib.Core.Path.{_≡_};
 ghost use Rattle.rules.specs.Numbers.{told};
-ghost use Rattle.machine.specs.Gives.{NewGives};
 ghost use Rattle.export.specs.Numbers.{numbered};
-ghost use Rattle.export.specs.Gives.{PressTableGives, PressPlanGives, PressCheckGives, PressLiveGives, PressLoadGives, PressStepGives, PressReadGives, PressWriteGives};
+ghost use Rattle.export.specs.Gives.{PressTableGives, PressPlanGives, PressCheckGives, PressLiveGives, PressNewGives, PressLoadGives, PressStepGives, PressReadGives, PressWriteGives, PressOpenGives};
 
 // Reading a table: 0, or 1 to 11.
 #[no_mangle]
@@ -71,119 +73,87 @@ pub extern "C" fn press_live(
     told.number
 }
 
-// A machine before its first loading, in memory that the caller lends.
+// A machine before its first loading, so unfit.
 #[no_mangle]
-pub extern "C" fn press_new(machine: &mut Machine)
-    ensures { λ _. ⌜ NewGives (now (machine .exit)) ⌝ }
+pub extern "C" fn press_lists_new(
+    numbers: &mut [u16; NUMBERS],
+    defaults: &mut [u32; MOST_SIGNALS],
+    store: &mut [u32; WORDS],
+)
+    ensures { λ _. ⌜ PressNewGives (now (numbers .exit)) (now (defaults .exit)) (now (store .exit)) ⌝ }
 {
-    *machine = Machine::new();
+    *numbers = [0; NUMBERS];
+    *defaults = [0; MOST_SIGNALS];
+    *store = [0; WORDS];
 }
 
 // Loading: 0, 1 to 11 for the table, or 15 to 22. A refused one leaves the machine running.
 #[no_mangle]
-pub extern "C" fn press_load<'a>(
-    machine: &mut Machine,
+pub extern "C" fn press_lists_load<'a, 'b>(
+    numbers: &'b mut [u16; NUMBERS],
+    defaults: &'b mut [u32; MOST_SIGNALS],
+    store: &'b mut [u32; WORDS],
     table: &'a [u8],
     schedule: &'a [u8],
     place: &mut usize,
 ) -> u8
-    ensures { λ r. ⌜ PressLoadGives (now (machine .entry)) (now (table .entry)) (now (schedule .entry)) r (now (place .exit)) (now (machine .exit)) ⌝ }
+    ensures { λ r. ⌜ PressLoadGives (now (numbers .entry)) (now (defaults .entry)) (now (store .entry)) (now (table .entry)) (now (schedule .entry)) r (now (place .exit)) (now (numbers .exit)) (now (defaults .exit)) (now (store .exit)) ⌝ }
 {
-    let answer = machine::lists::load(
-        &mut machine.loaded,
-        &mut machine.hyper,
-        &mut machine.tick,
-        &mut machine.periods,
-        &mut machine.starts,
-        &mut machine.ends,
-        &mut machine.counts,
-        &mut machine.reads,
-        &mut machine.writes,
-        &mut machine.uses,
-        &mut machine.defaults,
-        &mut machine.carried,
-        &mut machine.held,
-        &mut machine.store,
-        table,
-        schedule,
-    );
-    let told = numbers_of(answer);
-    *place = told.place;
-    told.number
+    let loaded = lists::load(numbers, defaults, store, table, schedule);
+    *place = answers::place(loaded);
+    answers::number(loaded)
 }
 
 // The next tick: 0, or 25.
 #[no_mangle]
-pub extern "C" fn press_step(running: &mut Machine) -> u8
-    ensures { λ r. ⌜ PressStepGives (now (running .entry)) r (now (running .exit)) ⌝ }
+pub extern "C" fn press_lists_step(
+    numbers: &mut [u16; NUMBERS],
+    defaults: &[u32; MOST_SIGNALS],
+    store: &mut [u32; WORDS],
+) -> u8
+    ensures { λ r. ⌜ PressStepGives (now (numbers .entry)) (now (defaults .entry)) (now (store .entry)) r (now (numbers .exit)) (now (store .exit)) ⌝ }
 {
-    let stepped = machine::lists::step(
-        running.loaded,
-        running.hyper,
-        &mut running.tick,
-        &running.periods,
-        &running.starts,
-        &running.ends,
-        &running.counts,
-        &running.reads,
-        &running.writes,
-        &running.uses,
-        &running.defaults,
-        &running.carried,
-        &mut running.held,
-        &mut running.store,
-    );
-    answers::number(stepped)
+    answers::number(lists::step(numbers, defaults, store))
 }
 
 // What a task reads of a signal now: 0 with the word, or 23 to 25 with word 0.
 #[no_mangle]
-pub extern "C" fn press_read(state: &Machine, task: usize, signal: usize, word: &mut u32) -> u8
-    ensures { λ r. ⌜ PressReadGives (now (state .entry)) task signal r (now (word .exit)) ⌝ }
+pub extern "C" fn press_lists_read<'a>(
+    numbers: &'a [u16; NUMBERS],
+    store: &'a [u32; WORDS],
+    task: usize,
+    signal: usize,
+    word: &mut u32,
+) -> u8
+    ensures { λ r. ⌜ PressReadGives (now (numbers .entry)) (now (store .entry)) task signal r (now (word .exit)) ⌝ }
 {
-    let read = machine::lists::read(
-        state.loaded,
-        state.hyper,
-        state.tick,
-        &state.periods,
-        &state.starts,
-        &state.ends,
-        &state.counts,
-        &state.reads,
-        &state.writes,
-        &state.uses,
-        &state.carried,
-        &state.held,
-        &state.store,
-        task,
-        signal,
-    );
+    let read = lists::read(numbers, store, task, signal);
+    let answer = read.answer;
     *word = read.word;
-    answers::number(read.answer)
+    answers::number(answer)
 }
 
 // A task's write to a signal: 0, or 23 to 25.
 #[no_mangle]
-pub extern "C" fn press_write(machine: &mut Machine, task: usize, signal: usize, word: u32) -> u8
-    ensures { λ r. ⌜ PressWriteGives (now (machine .entry)) task signal word r (now (machine .exit)) ⌝ }
+pub extern "C" fn press_lists_write(
+    numbers: &[u16; NUMBERS],
+    store: &mut [u32; WORDS],
+    task: usize,
+    signal: usize,
+    word: u32,
+) -> u8
+    ensures { λ r. ⌜ PressWriteGives (now (numbers .entry)) (now (store .entry)) task signal word r (now (store .exit)) ⌝ }
 {
-    let written = machine::lists::write(
-        machine.loaded,
-        machine.hyper,
-        machine.tick,
-        &machine.periods,
-        &machine.starts,
-        &machine.ends,
-        &machine.counts,
-        &machine.reads,
-        &machine.writes,
-        &machine.uses,
-        &machine.carried,
-        &machine.held,
-        &mut machine.store,
-        task,
-        signal,
-        word,
-    );
-    answers::number(written)
+    answers::number(lists::write(numbers, store, task, signal, word))
+}
+
+// Which instance of a task is open now: 0 with the instance, or 23 to 25 with instance 0.
+#[no_mangle]
+pub extern "C" fn press_lists_open(numbers: &[u16; NUMBERS], task: usize, instance: &mut u16) -> u8
+    ensures { λ r. ⌜ PressOpenGives (now (numbers .entry)) task r (now (instance .exit)) ⌝ }
+{
+    let open = lists::open_instance(numbers, task);
+    let answer = open.answer;
+    *instance = open.instance;
+    answers::number(answer)
 }

@@ -11,22 +11,22 @@ use Rattle.rules.specs.Words.{total, times}
 use Rattle.rules.specs.Reading.{Grid}
 use Rattle.theory.proofs.Tests.{split}
 use Rattle.theory.proofs.Sums.{total-upto}
-use Rattle.loading.specs.Lists.{permits, usesOf, countIn, signalUses, usedBefore, baseBefore}
+use Rattle.loading.specs.Laid.{permits, usesOf, countIn, signalUses, usedBefore, baseBefore}
 
 pub total-next : (f : ℕ → ℕ) (n : ℕ) → total f (n + 1) ≡ total f n + f n
 unfolding total
 total-next f n = rw add-one
 
-module _ (grid : Grid) (counts : List ℕ) (kind s : ℕ) where
-  pub uses-next : (k : ℕ) → usesOf grid counts kind s (k + 1) ≡ usesOf grid counts kind s k + times (permits grid kind k s) (getD counts k 0)
+module _ (grid : Grid) (counts : List ℕ) (right s : ℕ) where
+  pub uses-next : (k : ℕ) → usesOf grid counts right s (k + 1) ≡ usesOf grid counts right s k + times (permits grid right k s) (getD counts k 0)
   unfolding usesOf
-  uses-next k = total-next (λ k. times (permits grid kind k s) (getD counts k 0)) k
+  uses-next k = total-next (λ k. times (permits grid right k s) (getD counts k 0)) k
 
-  pub uses-up : (n k : ℕ) → k ≤ n → usesOf grid counts kind s k ≤ usesOf grid counts kind s n
+  pub uses-up : (n k : ℕ) → k ≤ n → usesOf grid counts right s k ≤ usesOf grid counts right s n
   unfolding usesOf
-  uses-up n k h = total-upto (λ k. times (permits grid kind k s) (getD counts k 0)) k n h
+  uses-up n k h = total-upto (λ k. times (permits grid right k s) (getD counts k 0)) k n h
 
-  pub uses-none : usesOf grid counts kind s 0 ≡ 0
+  pub uses-none : usesOf grid counts right s 0 ≡ 0
   unfolding usesOf total
   uses-none = refl
 

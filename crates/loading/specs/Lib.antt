@@ -1,2 +1,2 @@
--- The lists of a machine that is loaded.
-pub mod Lists
+-- The numbers and the store of a machine that is loaded.
+pub mod Laid

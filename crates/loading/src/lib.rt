@@ -1,24 +1,39 @@
-// The lists of a machine that is loaded: the tasks' windows, and signal by signal the accesses, the uses and the elements.
+// The numbers and the store of a machine that is loaded: the tasks' windows, and signal by signal the accesses, the uses and the elements.
 use fields::wide;
-use rows::CELLS;
 use rules::BF_BYTES;
 use rules::COUNT_AT;
 use rules::ELEMENT_AT;
 use rules::MOST_SIGNALS;
 use rules::MOST_TASKS;
-use rules::MOST_USES;
 use rules::READ;
+use rules::Task;
 use rules::Tasks;
 use rules::USE_BYTES;
 use rules::WORDS;
 use rules::WRITE;
+use state::CARRIED;
+use state::CELLS;
+use state::COUNTS;
+use state::ENDS;
+use state::HYPER;
+use state::LOADED;
+use state::NONE;
+use state::NUMBERS;
+use state::PERIODS;
+use state::READS;
+use state::STARTS;
+use state::USES;
+use state::WRITES;
 ghost use mathlib.Core.Path.{_≡_};
 ghost use Prim.Native.Nat.{ℕ, _+_, _*_, _<_, _≤_};
-ghost use lib.ListN.{length, getD, set};
-ghost use Rattle.rules.specs.Words.{times};
+ghost use lib.ListN.{length, getD, replicate};
+ghost use Rattle.rules.specs.Words.{times, upTo};
 ghost use Rattle.rules.specs.Table.{mostTasks, mostSignals, mostUses, words};
-ghost use Rattle.rows.specs.Folds.{upTo};
-ghost use Rattle.loading.specs.Lists.{permits, usesOf, countIn, elementIn, placeAccess, placeAccesses, placeUses, fillElements, signalUses, usedBefore, baseBefore, writesOf, readsOf, usesIn, carriedIn, storeIn, periodsOf, startsOf, endsOf, countsOf, SignalRoom, Room, Windowed};
+ghost use Rattle.state.specs.Parts.{lastKind};
+ghost use Rattle.loading.specs.Laid.{blank, countsOf, setWindow, windowsLaid, permits, usesOf, countIn, placeAccess, placeAccesses, placeUses, fillElements, signalUses, signalAt, signalLaid, storeLaid, Narrow, Windowed, SignalRoom, Room};
+
+// Both grids of accesses, one after the other.
+const ACCESSES: usize = CELLS + CELLS;
 
 // How many uses and elements stand before what is loaded next.
 pub struct Filled {
@@ -26,69 +41,120 @@ pub struct Filled {
     pub base: usize,
 }
 
-fn long(x: u32) -> usize
-    ensures { λ r. ⌜ (r ≡ x) × (r < 4294967296) ⌝ }
+fn long(x: u16) -> usize
+    ensures { λ r. ⌜ (r ≡ x) × (r < 65536) ⌝ }
 {
     x as usize
 }
 
+// The numbers of a machine that is marked as loaded, at tick 0, and has no access.
+pub fn clear(numbers: &mut [u16; NUMBERS], hyper: u32)
+    requires { ⌜ hyper < 65536 ⌝ }
+    ensures { λ _. ⌜ now (numbers .exit) ≡ blank hyper ⌝ }
+{
+    *numbers = [0; NUMBERS];
+    numbers[LOADED] = 1;
+    numbers[HYPER] = hyper as u16;
+    for c in 0..ACCESSES {
+        numbers[READS + c] = NONE;
+    }
+}
+
+// How many instances each task has in a hyper-period.
+pub fn count_instances(tasks: Tasks, hyper: u32) -> [u16; MOST_TASKS]
+    requires { ⌜ Windowed tasks × (hyper < 65536) ⌝ }
+    ensures { λ r. ⌜ r ≡ countsOf tasks hyper ⌝ }
+{
+    let mut counts = [0u16; MOST_TASKS];
+    let n = tasks.count;
+    for k in 0..n {
+        let task = tasks.list[k];
+        counts[k] = (hyper / task.period) as u16;
+    }
+    counts
+}
+
+fn load_window(numbers: &mut [u16; NUMBERS], task: usize, window: Task, count: u16)
+    requires { ⌜ (task < mostTasks) × Narrow window ⌝ }
+    ensures { λ _. ⌜ now (numbers .exit) ≡ setWindow window count task (now (numbers .entry)) ⌝ }
+{
+    numbers[PERIODS + task] = window.period as u16;
+    numbers[STARTS + task] = window.start as u16;
+    numbers[ENDS + task] = window.end as u16;
+    numbers[COUNTS + task] = count;
+}
+
+// Each task's window, with its instances.
+pub fn load_windows(numbers: &mut [u16; NUMBERS], tasks: Tasks, counts: &[u16; MOST_TASKS])
+    requires { ⌜ Windowed tasks ⌝ }
+    ensures { λ _. ⌜ now (numbers .exit) ≡ windowsLaid tasks (now (counts .entry)) (now (numbers .entry)) ⌝ }
+{
+    let n = tasks.count;
+    for k in 0..n {
+        let window = tasks.list[k];
+        load_window(numbers, k, window, counts[k]);
+    }
+}
+
 fn is_permitted(
     grid: &[[u8; MOST_SIGNALS]; MOST_TASKS],
-    kind: u8,
+    right: u8,
     task: usize,
     signal: usize,
 ) -> bool
-    requires { ⌜ (task < mostTasks) × (signal < mostSignals) × (0 < kind) ⌝ }
-    ensures { λ r. ⌜ r ≡ permits (now (grid .entry)) kind task signal ⌝ }
+    requires { ⌜ (task < mostTasks) × (signal < mostSignals) × (0 < right) ⌝ }
+    ensures { λ r. ⌜ r ≡ permits (now (grid .entry)) right task signal ⌝ }
 {
-    grid[task][signal] / kind % 2 == 1
+    grid[task][signal] / right % 2 == 1
 }
 
 // One access: its uses begin here, one for each instance. Returns where the next ones begin.
 fn place_access<'a>(
-    firsts: &mut [u16; CELLS],
+    numbers: &mut [u16; NUMBERS],
+    kind: usize,
     grid: &'a [[u8; MOST_SIGNALS]; MOST_TASKS],
-    counts: &'a [u32; MOST_TASKS],
-    kind: u8,
+    counts: &'a [u16; MOST_TASKS],
+    right: u8,
     signal: usize,
     used: usize,
     task: usize,
 ) -> usize
-    requires { ⌜ (task < mostTasks) × (signal < mostSignals) × (0 < kind) × (used ≤ mostUses) ⌝ }
-    ensures { λ r. ⌜ (now (firsts .exit) ≡ placeAccess (now (grid .entry)) kind signal used task (now (firsts .entry)))
-        × (r ≡ used + times (permits (now (grid .entry)) kind task signal) (getD (now (counts .entry)) task 0)) ⌝ }
+    requires { ⌜ (kind ≤ lastKind) × (task < mostTasks) × (signal < mostSignals) × (0 < right) × (used ≤ mostUses) ⌝ }
+    ensures { λ r. ⌜ (now (numbers .exit) ≡ placeAccess kind (now (grid .entry)) right signal used task (now (numbers .entry)))
+        × (r ≡ used + times (permits (now (grid .entry)) right task signal) (getD (now (counts .entry)) task 0)) ⌝ }
 {
-    if !is_permitted(grid, kind, task, signal) {
+    if !is_permitted(grid, right, task, signal) {
         return used;
     }
-    firsts[task * MOST_SIGNALS + signal] = used as u16;
+    numbers[kind + task * MOST_SIGNALS + signal] = used as u16;
     used + long(counts[task])
 }
 
 // All tasks' accesses of one kind to one signal.
 fn place_accesses<'a>(
-    firsts: &mut [u16; CELLS],
+    numbers: &mut [u16; NUMBERS],
+    kind: usize,
     grid: &'a [[u8; MOST_SIGNALS]; MOST_TASKS],
-    counts: &'a [u32; MOST_TASKS],
+    counts: &'a [u16; MOST_TASKS],
     tasks: usize,
-    kind: u8,
+    right: u8,
     signal: usize,
     first: usize,
 ) -> usize
-    requires { ⌜ (tasks ≤ mostTasks) × (signal < mostSignals) × (0 < kind) × (first + usesOf (now grid) (now counts) kind signal tasks ≤ mostUses) ⌝ }
-    ensures { λ r. ⌜ (now (firsts .exit) ≡ placeAccesses (now (grid .entry)) (now (counts .entry)) kind signal first tasks (now (firsts .entry)))
-        × (r ≡ first + usesOf (now (grid .entry)) (now (counts .entry)) kind signal tasks) ⌝ }
+    requires { ⌜ (kind ≤ lastKind) × (tasks ≤ mostTasks) × (signal < mostSignals) × (0 < right) × (first + usesOf (now grid) (now counts) right signal tasks ≤ mostUses) ⌝ }
+    ensures { λ r. ⌜ (now (numbers .exit) ≡ placeAccesses kind (now (grid .entry)) (now (counts .entry)) right signal first tasks (now (numbers .entry)))
+        × (r ≡ first + usesOf (now (grid .entry)) (now (counts .entry)) right signal tasks) ⌝ }
 {
     let mut used = first;
     for k in 0..tasks {
-        used = place_access(firsts, grid, counts, kind, signal, used, k);
+        used = place_access(numbers, kind, grid, counts, right, signal, used, k);
     }
     used
 }
 
 // The positions of n uses of one signal, from the schedule's elements.
 fn place_uses(
-    uses: &mut [u16; MOST_USES],
+    numbers: &mut [u16; NUMBERS],
     schedule: &[u8],
     signal: usize,
     base: usize,
@@ -96,12 +162,12 @@ fn place_uses(
     n: usize,
 )
     requires { ⌜ (signal < mostSignals) × (base ≤ words) × (first + n ≤ mostUses) × (4 * signal + 7 * (first + n) + 4 ≤ length (now schedule)) ⌝ }
-    ensures { λ _. ⌜ now (uses .exit) ≡ placeUses (now (schedule .entry)) signal base first n (now (uses .entry)) ⌝ }
+    ensures { λ _. ⌜ now (numbers .exit) ≡ placeUses (now (schedule .entry)) signal base first n (now (numbers .entry)) ⌝ }
 {
     for j in 0..n {
         let k = first + j;
         let element = schedule[BF_BYTES * (signal + 1) + USE_BYTES * k + ELEMENT_AT];
-        uses[k] = (base + wide(element)) as u16;
+        numbers[USES + k] = (base + wide(element)) as u16;
     }
 }
 
@@ -114,15 +180,12 @@ fn fill_elements(store: &mut [u32; WORDS], base: usize, n: usize, word: u32)
     }
 }
 
-// The lists of one signal. Returns what stands before the next one.
+// One signal: where its element 0 stands, its accesses, its uses and its elements. Returns what stands before the next one.
 fn load_signal<'a>(
-    writes: &mut [u16; CELLS],
-    reads: &mut [u16; CELLS],
-    uses: &mut [u16; MOST_USES],
-    carried: &mut [u16; MOST_SIGNALS],
+    numbers: &mut [u16; NUMBERS],
     store: &mut [u32; WORDS],
     grid: &'a [[u8; MOST_SIGNALS]; MOST_TASKS],
-    counts: &'a [u32; MOST_TASKS],
+    counts: &'a [u16; MOST_TASKS],
     schedule: &'a [u8],
     tasks: usize,
     word: u32,
@@ -131,55 +194,43 @@ fn load_signal<'a>(
     signal: usize,
 ) -> Filled
     requires { ⌜ SignalRoom (now grid) (now counts) (now schedule) tasks used base signal ⌝ }
-    ensures { λ r. ⌜ (now (writes .exit) ≡ placeAccesses (now (grid .entry)) (now (counts .entry)) 2 signal used tasks (now (writes .entry)))
-        × (now (reads .exit) ≡ placeAccesses (now (grid .entry)) (now (counts .entry)) 1 signal (used + usesOf (now (grid .entry)) (now (counts .entry)) 2 signal tasks) tasks (now (reads .entry)))
-        × (now (uses .exit) ≡ placeUses (now (schedule .entry)) signal base used (signalUses (now (grid .entry)) (now (counts .entry)) tasks signal) (now (uses .entry)))
-        × (now (carried .exit) ≡ set (now (carried .entry)) signal base)
+    ensures { λ r. ⌜ (now (numbers .exit) ≡ signalAt (now (grid .entry)) (now (counts .entry)) (now (schedule .entry)) tasks used base signal (now (numbers .entry)))
         × (now (store .exit) ≡ fillElements base (countIn (now (schedule .entry)) signal used) word (now (store .entry)))
         × (r .used ≡ used + signalUses (now (grid .entry)) (now (counts .entry)) tasks signal)
         × (r .base ≡ base + countIn (now (schedule .entry)) signal used) ⌝ }
 {
     let count = wide(schedule[BF_BYTES * signal + USE_BYTES * used + COUNT_AT]);
-    carried[signal] = base as u16;
     fill_elements(store, base, count, word);
-    let written = place_accesses(writes, grid, counts, tasks, WRITE, signal, used);
-    let end = place_accesses(reads, grid, counts, tasks, READ, signal, written);
-    place_uses(uses, schedule, signal, base, used, end - used);
+    numbers[CARRIED + signal] = base as u16;
+    let read = place_accesses(numbers, WRITES, grid, counts, tasks, WRITE, signal, used);
+    let end = place_accesses(numbers, READS, grid, counts, tasks, READ, signal, read);
+    place_uses(numbers, schedule, signal, base, used, end - used);
     Filled {
         used: end,
         base: base + count,
     }
 }
 
-// The lists of all signals.
+// All signals, one after the other.
 pub fn load_signals<'a>(
-    writes: &mut [u16; CELLS],
-    reads: &mut [u16; CELLS],
-    uses: &mut [u16; MOST_USES],
-    carried: &mut [u16; MOST_SIGNALS],
+    numbers: &mut [u16; NUMBERS],
     store: &mut [u32; WORDS],
     grid: &'a [[u8; MOST_SIGNALS]; MOST_TASKS],
-    counts: &'a [u32; MOST_TASKS],
+    counts: &'a [u16; MOST_TASKS],
     defaults: &'a [u32; MOST_SIGNALS],
     schedule: &'a [u8],
     tasks: usize,
     signals: usize,
 )
     requires { ⌜ Room (now grid) (now counts) (now schedule) tasks signals ⌝ }
-    ensures { λ _. ⌜ (now (writes .exit) ≡ upTo signals (writesOf (now (grid .entry)) (now (counts .entry)) tasks) (now (writes .entry)))
-        × (now (reads .exit) ≡ upTo signals (readsOf (now (grid .entry)) (now (counts .entry)) tasks) (now (reads .entry)))
-        × (now (uses .exit) ≡ upTo signals (usesIn (now (grid .entry)) (now (counts .entry)) (now (schedule .entry)) tasks) (now (uses .entry)))
-        × (now (carried .exit) ≡ upTo signals (carriedIn (now (grid .entry)) (now (counts .entry)) (now (schedule .entry)) tasks) (now (carried .entry)))
-        × (now (store .exit) ≡ upTo signals (storeIn (now (grid .entry)) (now (counts .entry)) (now (schedule .entry)) tasks (now (defaults .entry))) (now (store .entry))) ⌝ }
+    ensures { λ _. ⌜ (now (numbers .exit) ≡ upTo signals (signalLaid (now (grid .entry)) (now (counts .entry)) (now (schedule .entry)) tasks) (now (numbers .entry)))
+        × (now (store .exit) ≡ upTo signals (storeLaid (now (grid .entry)) (now (counts .entry)) (now (schedule .entry)) tasks (now (defaults .entry))) (now (store .entry))) ⌝ }
 {
     let mut used = 0;
     let mut base = 0;
     for s in 0..signals {
         let next = load_signal(
-            writes,
-            reads,
-            uses,
-            carried,
+            numbers,
             store,
             grid,
             counts,
@@ -192,30 +243,5 @@ pub fn load_signals<'a>(
         );
         used = next.used;
         base = next.base;
-    }
-}
-
-// Each task's window, and how many instances it has in a hyper-period.
-pub fn load_windows(
-    periods: &mut [u32; MOST_TASKS],
-    starts: &mut [u32; MOST_TASKS],
-    ends: &mut [u32; MOST_TASKS],
-    counts: &mut [u32; MOST_TASKS],
-    tasks: Tasks,
-    hyper: u32,
-)
-    requires { ⌜ Windowed tasks ⌝ }
-    ensures { λ _. ⌜ (now (periods .exit) ≡ upTo (tasks .count) (periodsOf tasks) (now (periods .entry)))
-        × (now (starts .exit) ≡ upTo (tasks .count) (startsOf tasks) (now (starts .entry)))
-        × (now (ends .exit) ≡ upTo (tasks .count) (endsOf tasks) (now (ends .entry)))
-        × (now (counts .exit) ≡ upTo (tasks .count) (countsOf tasks hyper) (now (counts .entry))) ⌝ }
-{
-    let n = tasks.count;
-    for k in 0..n {
-        let task = tasks.list[k];
-        periods[k] = task.period;
-        starts[k] = task.start;
-        ends[k] = task.end;
-        counts[k] = hyper / task.period;
     }
 }

@@ -1,7 +1,2 @@
-pub mod Steps
-pub mod Fit
-pub mod Follows
-pub mod Simulates
-pub mod Listed
-pub mod Started
+pub mod Counted
 pub mod Load

@@ -1,41 +1,33 @@
--- Loading from bytes: what the code's steps give, one result only, and it starts document 01's machine, which is fit. Assumes nothing.
-use mathlib.Core.Path.{_≡_, refl, sym, ap, subst, _∙_}
-use mathlib.Core.Bool.{true}
-use mathlib.Core.List.{List}
+-- Loading from bytes: what the code's steps give, by what was refused. Assumes nothing.
 use Prim.Native.Nat.{ℕ}
-use borrow.Author.Tests.{eq-eqb, ne-eqb, eqb-true, eqb-false}
+use mathlib.Core.Path.{_≡_, sym, ap, subst, _∙_}
+use mathlib.Core.List.{List}
+use lib.ListN.{length}
+use borrow.Author.Tests.{eq-eqb, ne-eqb}
+use Rattle.rules.specs.Windows.{hyper}
+use Rattle.rules.specs.Table.{Fits}
 use Rattle.rules.specs.Numbers.{Told, told}
 use Rattle.rules.specs.Answers.{checkSays}
-use Rattle.rules.specs.Reading.{Grid, gridIn, tableIn, tableRead}
-use Rattle.rules.specs.Loading.{loadSays, accepts}
+use Rattle.rules.specs.Reading.{Grid, gridIn, tableRead}
+use Rattle.rules.specs.Loading.{loadSays}
 use Rattle.rules.specs.declared.Answer.{Answer}
-use Rattle.theory.proofs.Tests.{split}
-use Rattle.theory.proofs.Loads.{both-accepted, load-accepts}
-use Rattle.fields.proofs.Told.{told-exact}
+use Rattle.theory.proofs.Laid.{bytes-length}
+use Rattle.theory.proofs.Checked.{check-sound}
 use Rattle.table.specs.declared.reading.TableRead.{TableRead}
 use Rattle.table.specs.Said.{tableSaid}
 use Rattle.table.proofs.Exact.{answer-says, hyper-read}
 use Rattle.faults.specs.Faults.{readTable}
 use Rattle.verdict.proofs.Loaded.{load-refused, load-accepted, load-checked}
 use Rattle.machine.specs.declared.Machine.{Machine}
-use Rattle.machine.specs.declared.Stepped.{Stepped}
-use Rattle.machine.specs.Calls.{fit, answered}
-use Rattle.machine.specs.Fit.{StaysFit}
-use Rattle.machine.specs.Started.{given, started, Checked}
-use Rattle.machine.specs.Load.{givenBy, loadLeaves, Loads, LoadsExact, LoadsRight}
-use Rattle.machine.proofs.Fit.{step-fits, write-fits}
-use Rattle.machine.proofs.Started.{checked, starts-right}
+use Rattle.machine.specs.Calls.{answered}
+use Rattle.machine.specs.Started.{Given, given, tab, made, started, Checked}
+use Rattle.machine.specs.Load.{givenBy, loadLeaves, Loads}
 
-pub loads-exact : (m : Machine) (table schedule : List ℕ) → LoadsExact m table schedule
-loads-exact m table schedule a b f g =
-    λ i. record {
-      answer = told-exact (a .answer) (b .answer) (f .0 ∙ sym (g .0)) i;
-      machine = (f .1 ∙ sym (g .1)) i;
-    }
-
-pub loads-right : (m : Machine) (table schedule : List ℕ) → LoadsRight m table schedule
-unfolding loadLeaves tableIn
-loads-right m table schedule e = rw e (starts-right (givenBy table schedule) (load-accepts table schedule e .0) refl (both-accepted table schedule e .1))
+-- what the check of a schedule has for loading
+pub checked : (g : Given) → Fits (tab g) → g .hyper ≡ hyper (tab g) → checkSays (tab g) (g .schedule) .number ≡ 0 → Checked g
+checked g F h accepted =
+    let (b, A) = check-sound (tab g) (g .schedule) accepted in
+    record { fits = F; hyper-is = h; whole = ap length b ∙ bytes-length (tab g) (made g); in-all = A .in-all }
 
 -- ---- the results, by what was refused
 
@@ -50,22 +42,6 @@ module _ (table schedule : List ℕ) (m : Machine) where
   accepted-starts : loadSays table schedule .number ≡ 0 → loadLeaves m table schedule ≡ started (givenBy table schedule)
   unfolding loadLeaves
   accepted-starts e = rw (eq-eqb (loadSays table schedule .number) 0 e)
-
--- an accepted loading gives a fit state whatever it was loaded into, a refused one leaves it
-pub stays-fit : (m : Machine) → StaysFit m
-stays-fit m =
-    record {
-      step = step-fits m;
-      write = write-fits m;
-      load = λ table schedule r g f.
-          split (accepts table schedule)
-          (λ q. starts-fit table schedule r g (eqb-true (loadSays table schedule .number) 0 q))
-          (λ q. rw (g .1 ∙ refused-stays table schedule m (eqb-false (loadSays table schedule .number) 0 q)) f);
-      accepted = λ table schedule r g done. starts-fit table schedule r g (sym (ap (λ (t : Told). t .number) (g .0)) ∙ done);
-    }
-  where
-    starts-fit : (table schedule : List ℕ) (r : Stepped) → Loads m table schedule r → loadSays table schedule .number ≡ 0 → fit (r .machine) ≡ true
-    starts-fit table schedule r g e = rw (g .1) (loads-right m table schedule (eq-eqb (loadSays table schedule .number) 0 e) .fits)
 
 pub table-refused : (table : List ℕ) (r : TableRead) → tableSaid r ≡ tableRead table → (schedule : List ℕ) (m : Machine) → (told (r .answer) .number ≡ 0 → ⊥) → Loads m table schedule (answered (r .answer) m)
 table-refused table r says schedule m n = refused-loads table schedule m (r .answer) (load-refused table r says schedule n) n

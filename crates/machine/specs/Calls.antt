@@ -1,112 +1,107 @@
--- Document 01, "The machine": a step, a read and a write of a state that the code keeps. Assumes nothing.
-use Prim.Native.Nat.{ℕ, _+_, _*_}
-use mathlib.Core.Bool.{Bool, false, not, cond}
+-- Document 01, "The machine": a step, a read, a write and the open instance, over the numbers, defaults and words that the code keeps. Assumes nothing.
+use Prim.Native.Nat.{ℕ, _+_}
+use mathlib.Core.Bool.{Bool, not}
 use mathlib.Core.List.{List}
-use lib.Dec.{ltb}
+use lib.Dec.{leb, eqb}
 use lib.ListN.{replicate}
 use Rattle.rules.specs.Words.{when}
-use Rattle.rules.specs.Table.{mostTasks, mostSignals, mostUses, words}
+use Rattle.rules.specs.Table.{mostTasks, mostSignals, words}
 use Rattle.rules.specs.declared.Answer.{Answer}
-use Rattle.rows.specs.Fitness.{none, fitParts}
-use Rattle.rows.specs.Rows.{load, save, publications, openings, copies, placeOf}
-use Rattle.rows.specs.declared.Place.{Place}
+use Rattle.state.specs.Parts.{at, numbers, counts, reads, writes}
+use Rattle.state.specs.Fitness as fitness
+use Rattle.state.specs.Rows.{insideOf, load, save, published, openings, Lists, advanced, placeOf}
+use Rattle.state.specs.declared.Instance.{Instance}
+use Rattle.state.specs.declared.Place.{Place}
 use Rattle.machine.specs.declared.Machine.{Machine}
 use Rattle.machine.specs.declared.Stepped.{Stepped}
 use Rattle.machine.specs.declared.WordRead.{WordRead}
+use Rattle.machine.specs.declared.InstanceRead.{InstanceRead}
 
--- before the first loading
+-- the machine that keeps these lists
+abbrev pub keeping : (numbers defaults store : List ℕ) → Machine
+keeping n d s = record { numbers = n; defaults = d; store = s }
+
+-- before the first loading: all zero, so not marked as loaded
 abbrev pub unloaded : Machine
-unloaded = record {
-  loaded = false;
-  hyper = 0;
-  tick = 0;
-  periods = replicate mostTasks 0;
-  starts = replicate mostTasks 0;
-  ends = replicate mostTasks 0;
-  counts = replicate mostTasks 0;
-  reads = replicate (mostTasks * mostSignals) none;
-  writes = replicate (mostTasks * mostSignals) none;
-  uses = replicate mostUses 0;
-  defaults = replicate mostSignals 0;
-  carried = replicate mostSignals 0;
-  held = replicate mostSignals 0;
-  store = replicate words 0;
-}
+unloaded = keeping (replicate numbers 0) (replicate mostSignals 0) (replicate words 0)
 
 -- marked as loaded, hyper-period and tick in their bounds, all that it keeps inside the block or list it points into
-unfoldable pub fit : Machine → Bool
-fit m = fitParts (m .loaded) (m .hyper) (m .tick) (m .counts) (m .reads) (m .writes) (m .uses) (m .carried) (m .held)
+abbrev pub fit : Machine → Bool
+fit m = fitness.fit (m .numbers)
 
--- the state at another tick, with what is held and stored then
-abbrev pub at : Machine → ℕ → (held store : List ℕ) → Machine
-at m tick held store = record {
-  loaded = m .loaded;
-  hyper = m .hyper;
-  tick = tick;
-  periods = m .periods;
-  starts = m .starts;
-  ends = m .ends;
-  counts = m .counts;
-  reads = m .reads;
-  writes = m .writes;
-  uses = m .uses;
-  defaults = m .defaults;
-  carried = m .carried;
-  held = held;
-  store = store;
-}
+-- What a call answers, and the lists that it may change as it leaves them. Loading alone changes the defaults.
+pub record Left : Type 0 where
+  pub answer : Answer
+  pub numbers : List ℕ
+  pub store : List ℕ
+
+abbrev pub left : Answer → (numbers store : List ℕ) → Left
+left a n s = record { answer = a; numbers = n; store = s }
 
 -- ---- a step
 
--- what is held after the closings of the next tick
-unfoldable pub closed : Machine → List ℕ
-closed m = publications (m .periods) (m .ends) (m .counts) (m .writes) (m .uses) (m .tick) (m .held)
+-- openings, at the tick that came
+abbrev pub opened : (defaults : List ℕ) → Lists → Left
+opened d l = left (Answer.Done 0) (l .numbers) (openings (l .numbers) d (l .store))
 
--- the store after the openings of a tick
-unfoldable pub opened : Machine → ℕ → List ℕ → List ℕ
-opened m tick store = openings (m .periods) (m .starts) (m .counts) (m .writes) (m .uses) (m .defaults) tick store
-
--- closings; at H the copies, and the tick becomes 0; openings
-unfoldable pub moved : Machine → Machine
-moved m = cond (ltb (m .tick + 1) (m .hyper))
-    (at m (m .tick + 1) (closed m) (opened m (m .tick + 1) (m .store)))
-    (at m 0 (m .carried) (opened m 0 (copies (m .carried) (closed m) (m .store))))
-
-abbrev pub answered : Answer → Machine → Stepped
-answered a m = record { answer = a; machine = m }
-
-unfoldable pub stepOf : Machine → Stepped
-stepOf m = when (not (fit m)) (answered Answer.Unfit m) (answered (Answer.Done 0) (moved m))
-
--- where a task finds a signal now, by its accesses of one kind
-abbrev pub found : Machine → (firsts : List ℕ) → (task signal : ℕ) → Place
-found m firsts task signal = placeOf (m .periods) (m .starts) (m .ends) (m .counts) firsts (m .uses) (m .tick) task signal
-
-unfoldable pub readPlace : Machine → (task signal : ℕ) → Place
-readPlace m task signal = found m (m .reads) task signal
-
-unfoldable pub writePlace : Machine → (task signal : ℕ) → Place
-writePlace m task signal = found m (m .writes) task signal
+-- closings; the next tick, and at H the copies; openings
+unfoldable pub stepIn : (numbers defaults store : List ℕ) → Left
+stepIn n d s = when (not (fitness.fit n)) (left Answer.Unfit n s) (opened d (advanced (published n) s))
 
 -- ---- a read
 
 abbrev pub wordRead : Answer → ℕ → WordRead
 wordRead a w = record { answer = a; word = w }
 
-abbrev pub readAt : Machine → Place → WordRead
-readAt m (Place.At p) = wordRead (Answer.Done 0) (load (m .store) p)
-readAt m Place.NoAccess = wordRead Answer.NoAccess 0
-readAt m Place.Outside = wordRead Answer.Outside 0
+abbrev pub readAt : (store : List ℕ) → Place → WordRead
+readAt s (Place.At p) = wordRead (Answer.Done 0) (load s p)
+readAt s Place.NoAccess = wordRead Answer.NoAccess 0
+readAt s Place.Outside = wordRead Answer.Outside 0
 
-unfoldable pub readOf : Machine → (task signal : ℕ) → WordRead
-readOf m task signal = when (not (fit m)) (wordRead Answer.Unfit 0) (readAt m (readPlace m task signal))
+unfoldable pub readIn : (numbers store : List ℕ) → (task signal : ℕ) → WordRead
+readIn n s task signal = when (not (fitness.fit n)) (wordRead Answer.Unfit 0) (readAt s (placeOf n reads task signal))
 
 -- ---- a write
 
-abbrev pub writtenAt : Machine → ℕ → Place → Stepped
-writtenAt m word (Place.At p) = answered (Answer.Done 0) (at m (m .tick) (m .held) (save (m .store) p word))
-writtenAt m word Place.NoAccess = answered Answer.NoAccess m
-writtenAt m word Place.Outside = answered Answer.Outside m
+abbrev pub writtenAt : (numbers store : List ℕ) → (word : ℕ) → Place → Left
+writtenAt n s word (Place.At p) = left (Answer.Done 0) n (save s p word)
+writtenAt n s word Place.NoAccess = left Answer.NoAccess n s
+writtenAt n s word Place.Outside = left Answer.Outside n s
 
-unfoldable pub writeOf : Machine → (task signal word : ℕ) → Stepped
-writeOf m task signal word = when (not (fit m)) (answered Answer.Unfit m) (writtenAt m word (writePlace m task signal))
+unfoldable pub writeIn : (numbers store : List ℕ) → (task signal word : ℕ) → Left
+writeIn n s task signal word = when (not (fitness.fit n)) (left Answer.Unfit n s) (writtenAt n s word (placeOf n writes task signal))
+
+-- ---- the open instance
+
+abbrev pub instanceRead : Answer → ℕ → InstanceRead
+instanceRead a i = record { answer = a; instance = i }
+
+abbrev pub openAt : Instance → InstanceRead
+openAt (Instance.At i) = instanceRead (Answer.Done 0) i
+openAt Instance.Nothing = instanceRead Answer.Outside 0
+
+-- a task without instances is none of the table's
+unfoldable pub openIn : (numbers : List ℕ) → (task : ℕ) → InstanceRead
+openIn n task =
+    when (not (fitness.fit n)) (instanceRead Answer.Unfit 0)
+    (when (leb mostTasks task) (instanceRead Answer.NoAccess 0)
+    (when (eqb (at n (counts + task)) 0) (instanceRead Answer.NoAccess 0)
+    (openAt (insideOf n task))))
+
+-- ---- the same of a machine
+
+abbrev pub answered : Answer → Machine → Stepped
+answered a m = record { answer = a; machine = m }
+
+-- what a call of m leaves
+abbrev pub leaving : Machine → Left → Stepped
+leaving m l = answered (l .answer) (keeping (l .numbers) (m .defaults) (l .store))
+
+abbrev pub stepOf : Machine → Stepped
+stepOf m = leaving m (stepIn (m .numbers) (m .defaults) (m .store))
+
+abbrev pub readOf : Machine → (task signal : ℕ) → WordRead
+readOf m task signal = readIn (m .numbers) (m .store) task signal
+
+abbrev pub writeOf : Machine → (task signal word : ℕ) → Stepped
+writeOf m task signal word = leaving m (writeIn (m .numbers) (m .store) task signal word)

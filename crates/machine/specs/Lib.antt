@@ -1,8 +1,5 @@
--- The machine's calls on its state, and what holds of them.
+-- The machine's calls on its state.
 pub mod Calls
-pub mod Lists
-pub mod Fit
-pub mod Simulates
 pub mod Started
 pub mod Load
 pub mod Gives

@@ -1,128 +1,61 @@
 // Loading, a step, a read and a write over the machine's lists, lent where they lie: nothing of the machine is copied.
+use crate::InstanceRead;
 use crate::WordRead;
 use answers::DONE;
 use answers::number;
-use rows::CELLS;
-use rows::NONE;
-use rows::Place;
 use rules::Answer;
 use rules::MOST_SIGNALS;
 use rules::MOST_TASKS;
-use rules::MOST_USES;
 use rules::Signals;
 use rules::Tasks;
 use rules::WORDS;
 use sections::grid::read_grid;
+use state::Instance;
+use state::NUMBERS;
+use state::Place;
+use state::READS;
+use state::WRITES;
 use table::read_table;
 use verdict::check_with;
-ghost use Prim.Native.Nat.{ℕ};
 ghost use mathlib.Core.Path.{_≡_};
-ghost use mathlib.Core.List.{List};
-ghost use Rattle.machine.specs.Lists.{ofLists};
+ghost use Rattle.machine.specs.Calls.{keeping};
 ghost use Rattle.machine.specs.Started.{given, started, Checked};
-ghost use Rattle.machine.specs.Gives.{ListsLoadGives, ListsStepGives, ListsReadGives, ListsWriteGives};
+ghost use Rattle.machine.specs.Gives.{ListsLoadGives, ListsStepGives, ListsReadGives, ListsWriteGives, ListsOpenGives};
 
-pub fn step<'a>(
-    loaded: bool,
-    hyper: u32,
-    tick: &mut u32,
-    periods: &'a [u32; MOST_TASKS],
-    starts: &'a [u32; MOST_TASKS],
-    ends: &'a [u32; MOST_TASKS],
-    counts: &'a [u32; MOST_TASKS],
-    reads: &'a [u16; CELLS],
-    writes: &'a [u16; CELLS],
-    uses: &'a [u16; MOST_USES],
-    defaults: &'a [u32; MOST_SIGNALS],
-    carried: &'a [u16; MOST_SIGNALS],
-    held: &mut [u16; MOST_SIGNALS],
+pub fn step(
+    numbers: &mut [u16; NUMBERS],
+    defaults: &[u32; MOST_SIGNALS],
     store: &mut [u32; WORDS],
 ) -> Answer
-    ensures { λ r. ⌜ ListsStepGives (ofLists loaded hyper (now (tick .entry)) (now (periods .entry)) (now (starts .entry)) (now (ends .entry)) (now (counts .entry)) (now (reads .entry)) (now (writes .entry)) (now (uses .entry)) (now (defaults .entry)) (now (carried .entry)) (now (held .entry)) (now (store .entry))) r (now (tick .exit)) (now (held .exit)) (now (store .exit)) ⌝ }
+    ensures { λ r. ⌜ ListsStepGives (now (numbers .entry)) (now (defaults .entry)) (now (store .entry)) r (now (numbers .exit)) (now (store .exit)) ⌝ }
 {
-    if !rows::is_fit(
-        loaded,
-        hyper,
-        *tick,
-        counts,
-        reads,
-        writes,
-        uses,
-        carried,
-        held,
-    ) {
+    if !state::is_fit(numbers) {
         return Answer::Unfit;
     }
-    rows::publish_all(held, periods, ends, counts, writes, uses, *tick);
-    *tick = *tick + 1;
-    if hyper <= *tick {
-        rows::carry_all(store, carried, held);
-        *held = *carried;
-        *tick = 0;
-    }
-    rows::open_all(
-        store,
-        periods,
-        starts,
-        counts,
-        writes,
-        uses,
-        defaults,
-        *tick,
-    );
+    state::publish_all(numbers);
+    state::advance(numbers, store);
+    state::open_all(numbers, defaults, store);
     Answer::Done(0)
 }
 
-// The machine's defaults are not looked at, here and in a write: the same holds whatever they are.
 pub fn read<'a>(
-    loaded: bool,
-    hyper: u32,
-    tick: u32,
-    periods: &'a [u32; MOST_TASKS],
-    starts: &'a [u32; MOST_TASKS],
-    ends: &'a [u32; MOST_TASKS],
-    counts: &'a [u32; MOST_TASKS],
-    reads: &'a [u16; CELLS],
-    writes: &'a [u16; CELLS],
-    uses: &'a [u16; MOST_USES],
-    carried: &'a [u16; MOST_SIGNALS],
-    held: &'a [u16; MOST_SIGNALS],
+    numbers: &'a [u16; NUMBERS],
     store: &'a [u32; WORDS],
     task: usize,
     signal: usize,
 ) -> WordRead
-    ensures { λ r. ⌜ ListsReadGives (λ (defaults : List ℕ). ofLists loaded hyper tick (now (periods .entry)) (now (starts .entry)) (now (ends .entry)) (now (counts .entry)) (now (reads .entry)) (now (writes .entry)) (now (uses .entry)) defaults (now (carried .entry)) (now (held .entry)) (now (store .entry))) task signal r ⌝ }
+    ensures { λ r. ⌜ ListsReadGives (now (numbers .entry)) (now (store .entry)) task signal r ⌝ }
 {
-    if !rows::is_fit(
-        loaded,
-        hyper,
-        tick,
-        counts,
-        reads,
-        writes,
-        uses,
-        carried,
-        held,
-    ) {
+    if !state::is_fit(numbers) {
         return WordRead {
             answer: Answer::Unfit,
             word: 0,
         };
     }
-    match rows::locate(
-        periods,
-        starts,
-        ends,
-        counts,
-        reads,
-        uses,
-        tick,
-        task,
-        signal,
-    ) {
+    match state::locate(numbers, READS, task, signal) {
         Place::At(position) => WordRead {
             answer: Answer::Done(0),
-            word: rows::load(store, position),
+            word: state::load(store, position),
         },
         Place::NoAccess => WordRead {
             answer: Answer::NoAccess,
@@ -135,52 +68,21 @@ pub fn read<'a>(
     }
 }
 
-pub fn write<'a>(
-    loaded: bool,
-    hyper: u32,
-    tick: u32,
-    periods: &'a [u32; MOST_TASKS],
-    starts: &'a [u32; MOST_TASKS],
-    ends: &'a [u32; MOST_TASKS],
-    counts: &'a [u32; MOST_TASKS],
-    reads: &'a [u16; CELLS],
-    writes: &'a [u16; CELLS],
-    uses: &'a [u16; MOST_USES],
-    carried: &'a [u16; MOST_SIGNALS],
-    held: &'a [u16; MOST_SIGNALS],
+pub fn write(
+    numbers: &[u16; NUMBERS],
     store: &mut [u32; WORDS],
     task: usize,
     signal: usize,
     word: u32,
 ) -> Answer
-    ensures { λ r. ⌜ ListsWriteGives (λ (defaults : List ℕ). ofLists loaded hyper tick (now (periods .entry)) (now (starts .entry)) (now (ends .entry)) (now (counts .entry)) (now (reads .entry)) (now (writes .entry)) (now (uses .entry)) defaults (now (carried .entry)) (now (held .entry)) (now (store .entry))) task signal word r (now (store .exit)) ⌝ }
+    ensures { λ r. ⌜ ListsWriteGives (now (numbers .entry)) (now (store .entry)) task signal word r (now (store .exit)) ⌝ }
 {
-    if !rows::is_fit(
-        loaded,
-        hyper,
-        tick,
-        counts,
-        reads,
-        writes,
-        uses,
-        carried,
-        held,
-    ) {
+    if !state::is_fit(numbers) {
         return Answer::Unfit;
     }
-    match rows::locate(
-        periods,
-        starts,
-        ends,
-        counts,
-        writes,
-        uses,
-        tick,
-        task,
-        signal,
-    ) {
+    match state::locate(numbers, WRITES, task, signal) {
         Place::At(position) => {
-            rows::save(store, position, word);
+            state::save(store, position, word);
             Answer::Done(0)
         }
         Place::NoAccess => Answer::NoAccess,
@@ -188,26 +90,49 @@ pub fn write<'a>(
     }
 }
 
+// Which instance of a task is inside its window now. A task without instances is none of the table's.
+pub fn open_instance(numbers: &[u16; NUMBERS], task: usize) -> InstanceRead
+    ensures { λ r. ⌜ ListsOpenGives (now (numbers .entry)) task r ⌝ }
+{
+    if !state::is_fit(numbers) {
+        return InstanceRead {
+            answer: Answer::Unfit,
+            instance: 0,
+        };
+    }
+    if MOST_TASKS <= task {
+        return InstanceRead {
+            answer: Answer::NoAccess,
+            instance: 0,
+        };
+    }
+    if state::instances(numbers, task) == 0 {
+        return InstanceRead {
+            answer: Answer::NoAccess,
+            instance: 0,
+        };
+    }
+    match state::inside(numbers, task) {
+        Instance::At(i) => InstanceRead {
+            answer: Answer::Done(0),
+            instance: i,
+        },
+        Instance::Nothing => InstanceRead {
+            answer: Answer::Outside,
+            instance: 0,
+        },
+    }
+}
+
 // Loading: the table is checked, then the schedule. A refused loading leaves every list as it was.
 pub fn load<'a, 'b>(
-    loaded: &'b mut bool,
-    hyper: &'b mut u32,
-    tick: &'b mut u32,
-    periods: &'b mut [u32; MOST_TASKS],
-    starts: &'b mut [u32; MOST_TASKS],
-    ends: &'b mut [u32; MOST_TASKS],
-    counts: &'b mut [u32; MOST_TASKS],
-    reads: &'b mut [u16; CELLS],
-    writes: &'b mut [u16; CELLS],
-    uses: &'b mut [u16; MOST_USES],
+    numbers: &'b mut [u16; NUMBERS],
     defaults: &'b mut [u32; MOST_SIGNALS],
-    carried: &'b mut [u16; MOST_SIGNALS],
-    held: &'b mut [u16; MOST_SIGNALS],
     store: &'b mut [u32; WORDS],
     table: &'a [u8],
     schedule: &'a [u8],
 ) -> Answer
-    ensures { λ r. ⌜ ListsLoadGives (ofLists (now (loaded .entry)) (now (hyper .entry)) (now (tick .entry)) (now (periods .entry)) (now (starts .entry)) (now (ends .entry)) (now (counts .entry)) (now (reads .entry)) (now (writes .entry)) (now (uses .entry)) (now (defaults .entry)) (now (carried .entry)) (now (held .entry)) (now (store .entry))) (now (table .entry)) (now (schedule .entry)) r (ofLists (now (loaded .exit)) (now (hyper .exit)) (now (tick .exit)) (now (periods .exit)) (now (starts .exit)) (now (ends .exit)) (now (counts .exit)) (now (reads .exit)) (now (writes .exit)) (now (uses .exit)) (now (defaults .exit)) (now (carried .exit)) (now (held .exit)) (now (store .exit))) ⌝ }
+    ensures { λ r. ⌜ ListsLoadGives (now (numbers .entry)) (now (defaults .entry)) (now (store .entry)) (now (table .entry)) (now (schedule .entry)) r (now (numbers .exit)) (now (defaults .exit)) (now (store .exit)) ⌝ }
 {
     let read = read_table(table);
     let refusal = read.answer;
@@ -220,19 +145,8 @@ pub fn load<'a, 'b>(
         return answer;
     }
     start(
-        loaded,
-        hyper,
-        tick,
-        periods,
-        starts,
-        ends,
-        counts,
-        reads,
-        writes,
-        uses,
+        numbers,
         defaults,
-        carried,
-        held,
         store,
         read.tasks,
         read.signals,
@@ -245,57 +159,34 @@ pub fn load<'a, 'b>(
 
 // Loading after its checks: the block zeroed, every element filled with its default, tick 0 opened.
 fn start<'a, 'b>(
-    loaded: &'b mut bool,
-    hyper: &'b mut u32,
-    tick: &'b mut u32,
-    periods: &'b mut [u32; MOST_TASKS],
-    starts: &'b mut [u32; MOST_TASKS],
-    ends: &'b mut [u32; MOST_TASKS],
-    counts: &'b mut [u32; MOST_TASKS],
-    reads: &'b mut [u16; CELLS],
-    writes: &'b mut [u16; CELLS],
-    uses: &'b mut [u16; MOST_USES],
+    numbers: &'b mut [u16; NUMBERS],
     defaults: &'b mut [u32; MOST_SIGNALS],
-    carried: &'b mut [u16; MOST_SIGNALS],
-    held: &'b mut [u16; MOST_SIGNALS],
     store: &'b mut [u32; WORDS],
     tasks: Tasks,
     signals: Signals,
     grid: &'a [[u8; MOST_SIGNALS]; MOST_TASKS],
-    length: u32,
+    hyper: u32,
     schedule: &'a [u8],
 )
-    requires { ⌜ Checked (given tasks signals (now grid) length (now schedule)) ⌝ }
-    ensures { λ _. ⌜ ofLists (now (loaded .exit)) (now (hyper .exit)) (now (tick .exit)) (now (periods .exit)) (now (starts .exit)) (now (ends .exit)) (now (counts .exit)) (now (reads .exit)) (now (writes .exit)) (now (uses .exit)) (now (defaults .exit)) (now (carried .exit)) (now (held .exit)) (now (store .exit)) ≡ started (given tasks signals (now (grid .entry)) length (now (schedule .entry))) ⌝ }
+    requires { ⌜ Checked (given tasks signals (now grid) hyper (now schedule)) ⌝ }
+    ensures { λ _. ⌜ keeping (now (numbers .exit)) (now (defaults .exit)) (now (store .exit)) ≡ started (given tasks signals (now (grid .entry)) hyper (now (schedule .entry))) ⌝ }
 {
-    *loaded = true;
-    *hyper = length;
-    *tick = 0;
-    *periods = [0; MOST_TASKS];
-    *starts = [0; MOST_TASKS];
-    *ends = [0; MOST_TASKS];
-    *counts = [0; MOST_TASKS];
-    loading::load_windows(periods, starts, ends, counts, tasks, length);
-    *reads = [NONE; CELLS];
-    *writes = [NONE; CELLS];
-    *uses = [0; MOST_USES];
-    *carried = [0; MOST_SIGNALS];
-    *store = [0; WORDS];
+    let counts = loading::count_instances(tasks, hyper);
+    loading::clear(numbers, hyper);
+    loading::load_windows(numbers, tasks, &counts);
     let fresh = signals.defaults;
     *defaults = fresh;
+    *store = [0; WORDS];
     loading::load_signals(
-        writes,
-        reads,
-        uses,
-        carried,
+        numbers,
         store,
         grid,
-        counts,
+        &counts,
         defaults,
         schedule,
         tasks.count,
         signals.count,
     );
-    rows::open_all(store, periods, starts, counts, writes, uses, defaults, 0);
-    *held = *carried;
+    state::release_all(numbers);
+    state::open_all(numbers, defaults, store);
 }

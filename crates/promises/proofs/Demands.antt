@@ -1,6 +1,6 @@
 -- The demands are met: specs/Demands.antt, proved.
-use Rattle.machine.proofs.Fit.{unfit-exact, refused-leaves}
-use Rattle.machine.proofs.Load.{stays-fit}
+use Rattle.simulation.proofs.Fit.{unfit-exact, refused-leaves}
+use Rattle.simulation.proofs.Started.{stays-fit}
 use Rattle.promises.specs.Demands.{Demands}
 use Rattle.promises.proofs.Tables.{tables-exactly}
 use Rattle.promises.proofs.Plans.{all-plans-rightly}

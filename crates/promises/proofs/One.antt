@@ -1,12 +1,11 @@
 -- No other result meets a contract: specs/One.antt, proved.
 use mathlib.Core.Path.{_≡_, sym, _∙_}
-use mathlib.Core.List.{[]}
 use Rattle.fields.proofs.Told.{told-exact}
 use Rattle.records.proofs.Exact.{task-exact, signal-exact, access-exact, end-exact}
 use Rattle.lives.specs.declared.list.Lived.{Lived}
 use Rattle.table.proofs.Exact.{table-exact}
-use Rattle.machine.specs.Calls.{answered}
-use Rattle.machine.proofs.Load.{loads-exact}
+use Rattle.machine.specs.Calls.{keeping, answered}
+use Rattle.simulation.proofs.Started.{loads-exact}
 use Rattle.promises.specs.One.{One, Determined}
 
 -- a contract that names its result
@@ -36,10 +35,13 @@ determined = record {
   step = λ m. named _;
   read = λ m task signal. named _;
   write = λ m task signal word. named _;
-  lists-load = λ m table schedule a b p q. let e = loads-exact m table schedule (answered (a .0) (a .1)) (answered (b .0) (b .1)) p q in λ i. (e i .answer, e i .machine);
-  lists-step = λ m a b p q. let e = p ∙ sym q in λ i. (e i .answer, e i .machine .tick, e i .machine .held, e i .machine .store);
-  lists-read = λ m task signal a b p q. p [] ∙ sym (q []);
-  lists-write = λ m task signal word a b p q. let e = p [] ∙ sym (q []) in λ i. (e i .answer, e i .machine .store);
+  lists-load = λ n d s table schedule a b p q.
+      let e = loads-exact (keeping n d s) table schedule (answered (a .0) (keeping (a .1) (a .2) (a .3))) (answered (b .0) (keeping (b .1) (b .2) (b .3))) p q in
+      λ i. (e i .answer, e i .machine .numbers, e i .machine .defaults, e i .machine .store);
+  lists-step = λ n d s a b p q. let e = p ∙ sym q in λ i. (e i .answer, e i .numbers, e i .store);
+  lists-read = λ n s task signal. named _;
+  lists-write = λ n s task signal word a b p q. let e = p ∙ sym q in λ i. (e i .answer, e i .store);
+  lists-open = λ n task. named _;
   number = λ a. named _;
   place = λ a. named _;
   task = λ bytes count place a b p q. task-exact a b (p ∙ sym q);
@@ -52,8 +54,14 @@ determined = record {
   press-plan = λ table out a b p q. threefold a b (p .0 ∙ sym (q .0)) (p .1 ∙ sym (q .1)) (p .2 ∙ sym (q .2));
   press-check = λ table schedule a b p q. paired a b (p .0 ∙ sym (q .0)) (p .1 ∙ sym (q .1));
   press-live = λ table signal list a b p q. threefold a b (p .0 ∙ sym (q .0)) (p .1 ∙ sym (q .1)) (p .2 ∙ sym (q .2));
-  press-load = λ m table schedule a b p q. threefold a b (p .0 ∙ sym (q .0)) (p .1 ∙ sym (q .1)) (p .2 ∙ sym (q .2));
-  press-step = λ m a b p q. paired a b (p .0 ∙ sym (q .0)) (p .1 ∙ sym (q .1));
-  press-read = λ m task signal a b p q. paired a b (p .0 ∙ sym (q .0)) (p .1 ∙ sym (q .1));
-  press-write = λ m task signal word a b p q. paired a b (p .0 ∙ sym (q .0)) (p .1 ∙ sym (q .1));
+  press-new = λ a b p q. let e = p ∙ sym q in λ i. (e i .numbers, e i .defaults, e i .store);
+  press-load = λ n d s table schedule a b p q.
+      let e = p .0 ∙ sym (q .0) in
+      let f = p .1 ∙ sym (q .1) in
+      let m = p .2 ∙ sym (q .2) in
+      λ i. (e i, f i, m i .numbers, m i .defaults, m i .store);
+  press-step = λ n d s a b p q. threefold a b (p .0 ∙ sym (q .0)) (p .1 ∙ sym (q .1)) (p .2 ∙ sym (q .2));
+  press-read = λ n s task signal a b p q. paired a b (p .0 ∙ sym (q .0)) (p .1 ∙ sym (q .1));
+  press-write = λ n s task signal word a b p q. paired a b (p .0 ∙ sym (q .0)) (p .2 ∙ sym (q .2));
+  press-open = λ n task a b p q. paired a b (p .0 ∙ sym (q .0)) (p .1 ∙ sym (q .1));
 }

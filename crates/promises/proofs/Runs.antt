@@ -8,12 +8,11 @@ use borrow.Author.Tests.{eqb-false}
 use Rattle.rules.specs.Words.{when}
 use Rattle.rules.specs.Windows.{Table}
 use Rattle.rules.specs.Table.{Fits}
-use Rattle.rules.specs.Schedule.{Schedule, Passes}
 use Rattle.rules.specs.Numbers.{Told, told, unfit}
 use Rattle.rules.specs.Bytes.{scheduleIn}
 use Rattle.rules.specs.Reading.{tableIn}
-use Rattle.rules.specs.Meaning.{Call, step, read, write, refused, past}
-use Rattle.rules.specs.Machine.{State, loaded, answer, after, run}
+use Rattle.rules.specs.Meaning.{word, Call, step, read, write, refused, past}
+use Rattle.rules.specs.Machine.{State, Layout, separate, loaded, answer, after, run}
 use Rattle.rules.specs.Loading.{Request, load, call, loadSays, accepts, idle, on, reply, following, replies, Story, untold, since, telling}
 use Rattle.rules.specs.Loading as loading
 use Rattle.rules.specs.declared.Answer.{Answer}
@@ -25,14 +24,14 @@ use Rattle.fields.proofs.Told.{told-exact}
 use Rattle.machine.specs.declared.Machine.{Machine}
 use Rattle.machine.specs.declared.Stepped.{Stepped}
 use Rattle.machine.specs.declared.WordRead.{WordRead}
-use Rattle.machine.specs.Calls.{unloaded, fit, answered, wordRead, stepOf, readOf, writeOf}
+use Rattle.machine.specs.Calls.{unloaded, answered, wordRead, stepIn, readIn, writeIn, readOf, writeOf}
 use Rattle.machine.specs.Gives.{NewGives}
-use Rattle.rows.specs.Fitness.{fitParts}
-use Rattle.machine.specs.Simulates.{Runs, Said, said, outcomeSaid, callSaid, callLeaves}
 use Rattle.machine.specs.Load.{loadLeaves}
-use Rattle.machine.proofs.Fit.{refused-leaves}
-use Rattle.machine.proofs.Simulates.{simulates}
-use Rattle.machine.proofs.Load.{loads-exact, loads-right, refused-stays}
+use Rattle.machine.proofs.Load.{refused-stays}
+use Rattle.simulation.specs.Simulates.{Runs, Said, said, outcomeSaid, callSaid, callLeaves}
+use Rattle.simulation.proofs.Fit.{unloaded-unfit, refused-leaves}
+use Rattle.simulation.proofs.Simulates.{simulates}
+use Rattle.simulation.proofs.Started.{loads-exact, loads-right}
 use Rattle.promises.proofs.Schedules.{passing-done, done-passing}
 use Rattle.promises.specs.Runs.{Gives, loads, steps, reads, writes, Run, none, next, replySaid, storyOf, NextCall, AsPromised, RunsAsPromised, LoadsExactly}
 
@@ -54,10 +53,10 @@ gives-said m e a n (writes k s w r f) = (ap (λ (x : Stepped). said (told (x .an
 
 -- ---- one call more
 
-run-snoc : (tab : Table) (E : Schedule) (cs : List Call) (st : State) (c : Call) → run tab E st (cs ++ c ∷ []) ≡ after tab E (run tab E st cs) c
+run-snoc : (tab : Table) (L : Layout) (cs : List Call) (st : State) (c : Call) → run tab L st (cs ++ c ∷ []) ≡ after tab L (run tab L st cs) c
 unfolding run
-run-snoc tab E [] st c = refl
-run-snoc tab E (d ∷ cs) st c = run-snoc tab E cs (after tab E st d) c
+run-snoc tab L [] st c = refl
+run-snoc tab L (d ∷ cs) st c = run-snoc tab L cs (after tab L st d) c
 
 past-snoc : (cs h : List Call) (c : Call) → past h (cs ++ c ∷ []) ≡ c ∷ past h cs
 unfolding past
@@ -68,34 +67,35 @@ past-snoc (d ∷ cs) h c = past-snoc cs (d ∷ h) c
 
 data Stands : Machine → loading.Running → Story → Type 0 where
   fresh : (m : Machine) → m ≡ unloaded → Stands m idle untold
-  going : (tab : Table) (E : Schedule) (F : Fits tab) (A : Passes tab E) (cs : List Call) (m : Machine) → Runs tab E (run tab E (loaded tab E) cs) m
-      → Stands m (on tab E (run tab E (loaded tab E) cs)) (since tab (past [] cs))
+  going : (tab : Table) (L : Layout) (F : Fits tab) (D : (cs : List Call) → Demand3 tab L cs) (cs : List Call) (m : Machine) → Runs tab L (run tab L (loaded tab L) cs) m
+      → Stands m (on tab L (run tab L (loaded tab L) cs)) (since tab (past [] cs))
 
 -- before the first accepted loading every call is refused with 25
 unfit-said : (c : Call) → (callSaid unloaded c ≡ outcomeSaid (refused unfit)) × (callLeaves unloaded c ≡ unloaded)
-unfolding stepOf readOf writeOf fit fitParts when
-unfit-said step = (refl, refl)
-unfit-said (read k s) = (refl, refl)
-unfit-said (write k s w) = (refl, refl)
+unfolding stepIn readIn writeIn when
+unfit-said step = rw unloaded-unfit (refl, refl)
+unfit-said (read k s) = rw unloaded-unfit (refl, refl)
+unfit-said (write k s c) = rw unloaded-unfit (refl, refl)
 
 right-said : (e : Request) (m : Machine) (r : loading.Running) (h : Story) → Stands m r h → codeSaid m e ≡ replySaid (reply r e)
 unfolding reply
 right-said (load table schedule) m r h S = refl
 right-said (call c) m idle untold (fresh n e) = ap (λ x. callSaid x c) e ∙ unfit-said c .0
-right-said (call c) m (on t G st) (since u g) (going tab E F A cs n R) = simulates tab E F A (run tab E (loaded tab E) cs) m R c .0
+right-said (call c) m (on t G st) (since u g) (going tab L F D cs n R) = simulates tab L F (run tab L (loaded tab L) cs) m R c .0
 
 stands-after : (e : Request) (m : Machine) (r : loading.Running) (h : Story) → Stands m r h → Stands (codeLeaves m e) (following r e) (telling h e)
 unfolding following telling run past
 stands-after (load table schedule) m r h S =
     let tab = tableIn table in
     let E = scheduleIn tab schedule in
+    let L = separate tab E in
     split (accepts table schedule)
-    (λ q. let (F, A) = load-accepts table schedule q in rw q (going tab E F A [] (loadLeaves m table schedule) (loads-right m table schedule q)))
+    (λ q. let (F, A) = load-accepts table schedule q in rw q (going tab L F (machine-as-demanded tab F E A) [] (loadLeaves m table schedule) (loads-right m table schedule q)))
     (λ q. rw (q, refused-stays table schedule m (eqb-false (loadSays table schedule .number) 0 q)) S)
 stands-after (call c) m idle untold (fresh n e) = fresh (callLeaves m c) (ap (λ x. callLeaves x c) e ∙ unfit-said c .1)
-stands-after (call c) m (on t G st) (since u g) (going tab E F A cs n R) =
-    rw (← run-snoc tab E cs (loaded tab E) c, ← past-snoc cs [] c)
-    (going tab E F A (cs ++ c ∷ []) (callLeaves m c) (rw (run-snoc tab E cs (loaded tab E) c) (simulates tab E F A (run tab E (loaded tab E) cs) m R c .1)))
+stands-after (call c) m (on t G st) (since u g) (going tab L F D cs n R) =
+    rw (← run-snoc tab L cs (loaded tab L) c, ← past-snoc cs [] c)
+    (going tab L F D (cs ++ c ∷ []) (callLeaves m c) (rw (run-snoc tab L cs (loaded tab L) c) (simulates tab L F (run tab L (loaded tab L) cs) m R c .1)))
 
 stands-run : (es : List Request) (rs : List Said) (m n : Machine) (r : loading.Running) (h : Story) → Stands m r h → Run m es rs n
     → (rs ≡ map replySaid (replies r es)) × ((q : loading.Running) × Stands n q (storyOf h es))
@@ -119,24 +119,21 @@ one-word r a w e = λ i. record { answer = one-answer (r .answer) a (r .word) w 
 one-refusal : (m : Machine) (k s w : ℕ) (a : Answer) → (a ≡ Answer.Done 0 → ⊥) → writeOf m k s w .answer ≡ a → writeOf m k s w ≡ answered a m
 one-refusal m k s w a n e = λ i. record { answer = e i; machine = refused-leaves m .write k s w (λ z. n (sym e ∙ z)) i }
 
-going-on : (tab : Table) (E : Schedule) → Fits tab → Passes tab E → (cs : List Call) (m : Machine) → Runs tab E (run tab E (loaded tab E) cs) m → NextCall tab (past [] cs) m
-going-on tab E F A cs m R =
+going-on : (tab : Table) (L : Layout) → Fits tab → (cs : List Call) → Demand3 tab L cs → (m : Machine) → Runs tab L (run tab L (loaded tab L) cs) m → NextCall tab (past [] cs) m
+going-on tab L F cs D m R =
     record {
       ready = R .fits;
       read-inside = λ k s i p o r g. g ∙ one-word (readOf m k s) _ _ (says (read k s) ∙ ap outcomeSaid (D .read-inside k s i p o));
-      write-inside = λ k s w i p o r g. ap (λ (x : Stepped). x .answer) g ∙ one-answer _ (Answer.Done 0) _ 0 (says (write k s w) ∙ ap outcomeSaid (D .write-inside k s w i p o));
+      write-inside = λ k s w i p o r g. ap (λ (x : Stepped). x .answer) g ∙ one-answer _ (Answer.Done 0) _ 0 (says (write k s (word w)) ∙ ap outcomeSaid (D .write-inside k s (word w) i p o));
       steps = λ r g. ap (λ (x : Stepped). x .answer) g ∙ one-answer _ (Answer.Done 0) _ 0 (says step ∙ ap outcomeSaid (D .steps));
       read-outside = λ k s p o r g. g ∙ one-word (readOf m k s) _ _ (says (read k s) ∙ ap outcomeSaid (D .read-outside k s p o));
-      write-outside = λ k s w p o r g. g ∙ one-refusal m k s w _ outside-refuses (one-answer _ Answer.Outside _ 0 (says (write k s w) ∙ ap outcomeSaid (D .write-outside k s w p o)));
+      write-outside = λ k s w p o r g. g ∙ one-refusal m k s w _ outside-refuses (one-answer _ Answer.Outside _ 0 (says (write k s (word w)) ∙ ap outcomeSaid (D .write-outside k s (word w) p o)));
       read-unknown = λ k s n r g. g ∙ one-word (readOf m k s) _ _ (says (read k s) ∙ ap outcomeSaid (D .read-unknown k s n));
-      write-unknown = λ k s w n r g. g ∙ one-refusal m k s w _ unknown-refuses (one-answer _ Answer.NoAccess _ 0 (says (write k s w) ∙ ap outcomeSaid (D .write-unknown k s w n)));
+      write-unknown = λ k s w n r g. g ∙ one-refusal m k s w _ unknown-refuses (one-answer _ Answer.NoAccess _ 0 (says (write k s (word w)) ∙ ap outcomeSaid (D .write-unknown k s (word w) n)));
     }
   where
-    D : Demand3 tab E cs
-    D = machine-as-demanded tab F E A cs
-
-    says : (c : Call) → callSaid m c ≡ outcomeSaid (answer tab E (run tab E (loaded tab E) cs) c)
-    says c = simulates tab E F A (run tab E (loaded tab E) cs) m R c .0
+    says : (c : Call) → callSaid m c ≡ outcomeSaid (answer tab L (run tab L (loaded tab L) cs) c)
+    says c = simulates tab L F (run tab L (loaded tab L) cs) m R c .0
 
     outside-refuses : Answer.Outside ≡ Answer.Done 0 → ⊥
     outside-refuses e = let z : _≡_ {A = ℕ} 0 1 = cc in omega arith
@@ -151,7 +148,7 @@ Promised m (since tab h) = NextCall tab h m
 stands-promised : (m : Machine) (r : loading.Running) (h : Story) → Stands m r h → Promised m h
 unfolding Promised
 stands-promised m idle untold (fresh n e) = e
-stands-promised m (on t G st) (since u g) (going tab E F A cs n R) = going-on tab E F A cs m R
+stands-promised m (on t G st) (since u g) (going tab L F D cs n R) = going-on tab L F cs (D cs) m R
 
 new-promised : (new : Machine) → NewGives new → (es : List Request) (rs : List Said) (m : Machine) → Run new es rs m → AsPromised es rs m
 unfolding Promised

@@ -13,7 +13,7 @@ use Rattle.lives.specs.Gives.{ListGives}
 use Rattle.machine.specs.declared.Machine.{Machine}
 use Rattle.machine.specs.declared.Stepped.{Stepped}
 use Rattle.machine.specs.Load.{Loads}
-use Rattle.machine.specs.Fit.{UnfitExact, StaysFit, RefusedLeaves}
+use Rattle.simulation.specs.Fit.{UnfitExact, StaysFit, RefusedLeaves}
 use Rattle.promises.specs.Tables.{TablesExactly}
 use Rattle.promises.specs.Plans.{AllPlansRightly}
 use Rattle.promises.specs.Lists.{AllListsRightly}

@@ -28,9 +28,10 @@ use Rattle.answers.specs.Gives.{NumberGives, PlaceGives}
 use Rattle.machine.specs.declared.Machine.{Machine}
 use Rattle.machine.specs.declared.Stepped.{Stepped}
 use Rattle.machine.specs.declared.WordRead.{WordRead}
+use Rattle.machine.specs.declared.InstanceRead.{InstanceRead}
 use Rattle.machine.specs.Load.{Loads}
-use Rattle.machine.specs.Gives.{NewGives, StepGives, ReadGives, WriteGives, ListsLoadGives, ListsStepGives, ListsReadGives, ListsWriteGives}
-use Rattle.export.specs.Gives.{PressTableGives, PressPlanGives, PressCheckGives, PressLiveGives, PressLoadGives, PressStepGives, PressReadGives, PressWriteGives}
+use Rattle.machine.specs.Gives.{NewGives, StepGives, ReadGives, WriteGives, ListsLoadGives, ListsStepGives, ListsReadGives, ListsWriteGives, ListsOpenGives}
+use Rattle.export.specs.Gives.{PressTableGives, PressPlanGives, PressCheckGives, PressLiveGives, PressNewGives, PressLoadGives, PressStepGives, PressReadGives, PressWriteGives, PressOpenGives}
 
 -- all that meet a contract are equal
 abbrev pub One : {A : Type 0} → (A → Type 0) → Type 0
@@ -47,7 +48,7 @@ pub record Determined : Type 1 where
   pub lent : (table : List ℕ) (signal room : ℕ) (before : LiveValue) → One (λ (r : Lived). LentGives table signal room before r)
   -- inspect::check_schedule
   pub check-schedule : (table schedule : List ℕ) → One (λ (r : Answer). CheckGives table schedule r)
-  -- machine::Machine::new, export::press_new
+  -- machine::Machine::new
   pub new : One (λ (r : Machine). NewGives r)
   -- machine::Machine::load
   pub load : (m : Machine) (table schedule : List ℕ) → One (λ (r : Stepped). Loads m table schedule r)
@@ -58,13 +59,15 @@ pub record Determined : Type 1 where
   -- machine::Machine::write
   pub write : (m : Machine) (task signal word : ℕ) → One (λ (r : Stepped). WriteGives m task signal word r)
   -- machine::lists::load
-  pub lists-load : (m : Machine) (table schedule : List ℕ) → One (λ (x : Answer × Machine). ListsLoadGives m table schedule (x .0) (x .1))
+  pub lists-load : (n d s table schedule : List ℕ) → One (λ (x : Answer × List ℕ × List ℕ × List ℕ). ListsLoadGives n d s table schedule (x .0) (x .1) (x .2) (x .3))
   -- machine::lists::step
-  pub lists-step : (m : Machine) → One (λ (x : Answer × ℕ × List ℕ × List ℕ). ListsStepGives m (x .0) (x .1) (x .2) (x .3))
+  pub lists-step : (n d s : List ℕ) → One (λ (x : Answer × List ℕ × List ℕ). ListsStepGives n d s (x .0) (x .1) (x .2))
   -- machine::lists::read
-  pub lists-read : (m : List ℕ → Machine) (task signal : ℕ) → One (λ (r : WordRead). ListsReadGives m task signal r)
+  pub lists-read : (n s : List ℕ) (task signal : ℕ) → One (λ (r : WordRead). ListsReadGives n s task signal r)
   -- machine::lists::write
-  pub lists-write : (m : List ℕ → Machine) (task signal word : ℕ) → One (λ (x : Answer × List ℕ). ListsWriteGives m task signal word (x .0) (x .1))
+  pub lists-write : (n s : List ℕ) (task signal word : ℕ) → One (λ (x : Answer × List ℕ). ListsWriteGives n s task signal word (x .0) (x .1))
+  -- machine::lists::open_instance
+  pub lists-open : (n : List ℕ) (task : ℕ) → One (λ (r : InstanceRead). ListsOpenGives n task r)
   -- answers::number
   pub number : (a : Answer) → One (λ (n : ℕ). NumberGives a n)
   -- answers::place
@@ -91,11 +94,15 @@ pub record Determined : Type 1 where
   pub press-check : (table schedule : List ℕ) → One (λ (x : ℕ × ℕ). PressCheckGives table schedule (x .0) (x .1))
   -- export::press_live
   pub press-live : (table : List ℕ) (signal : ℕ) (list : List LiveValue) → One (λ (x : ℕ × ℕ × List LiveValue). PressLiveGives table signal list (x .0) (x .1) (x .2))
-  -- export::press_load
-  pub press-load : (m : Machine) (table schedule : List ℕ) → One (λ (x : ℕ × ℕ × Machine). PressLoadGives m table schedule (x .0) (x .1) (x .2))
-  -- export::press_step
-  pub press-step : (m : Machine) → One (λ (x : ℕ × Machine). PressStepGives m (x .0) (x .1))
-  -- export::press_read
-  pub press-read : (m : Machine) (task signal : ℕ) → One (λ (x : ℕ × ℕ). PressReadGives m task signal (x .0) (x .1))
-  -- export::press_write
-  pub press-write : (m : Machine) (task signal word : ℕ) → One (λ (x : ℕ × Machine). PressWriteGives m task signal word (x .0) (x .1))
+  -- export::press_lists_new
+  pub press-new : One (λ (x : List ℕ × List ℕ × List ℕ). PressNewGives (x .0) (x .1) (x .2))
+  -- export::press_lists_load
+  pub press-load : (n d s table schedule : List ℕ) → One (λ (x : ℕ × ℕ × List ℕ × List ℕ × List ℕ). PressLoadGives n d s table schedule (x .0) (x .1) (x .2) (x .3) (x .4))
+  -- export::press_lists_step
+  pub press-step : (n d s : List ℕ) → One (λ (x : ℕ × List ℕ × List ℕ). PressStepGives n d s (x .0) (x .1) (x .2))
+  -- export::press_lists_read
+  pub press-read : (n s : List ℕ) (task signal : ℕ) → One (λ (x : ℕ × ℕ). PressReadGives n s task signal (x .0) (x .1))
+  -- export::press_lists_write
+  pub press-write : (n s : List ℕ) (task signal word : ℕ) → One (λ (x : ℕ × List ℕ). PressWriteGives n s task signal word (x .0) (x .1))
+  -- export::press_lists_open
+  pub press-open : (n : List ℕ) (task : ℕ) → One (λ (x : ℕ × ℕ). PressOpenGives n task (x .0) (x .1))

@@ -10,7 +10,8 @@ use Rattle.rules.specs.Schedule.{Schedule, Passes}
 use Rattle.rules.specs.Numbers.{told, allDone}
 use Rattle.rules.specs.Bytes.{bytesOf}
 use Rattle.rules.specs.Reading.{tableIn, readSays}
-use Rattle.rules.specs.Meaning.{Call, step, read, write, now, valueAt}
+use Rattle.rules.specs.Meaning.{word, Call, step, read, write, now, valueAt}
+use Rattle.rules.specs.Stores.{wordIn}
 use Rattle.rules.specs.Loading.{Request, load, call, accepts, Reply, Story, untold, since, telling, meantReplies}
 use Rattle.rules.specs.declared.Answer.{Answer}
 use Rattle.theory.specs.Promises.{Permitted}
@@ -18,9 +19,9 @@ use Rattle.machine.specs.declared.Machine.{Machine}
 use Rattle.machine.specs.declared.Stepped.{Stepped}
 use Rattle.machine.specs.declared.WordRead.{WordRead}
 use Rattle.machine.specs.Calls.{unloaded, fit, answered, wordRead}
-use Rattle.machine.specs.Simulates.{Said, said, outcomeSaid}
 use Rattle.machine.specs.Load.{Loads}
 use Rattle.machine.specs.Gives.{NewGives, StepGives, ReadGives, WriteGives}
+use Rattle.simulation.specs.Simulates.{Said, said, outcomeSaid}
 
 -- ---- what is called
 
@@ -29,7 +30,7 @@ pub data Gives (m : Machine) : Request → Said → Machine → Type 0 where
   loads : (table schedule : List ℕ) (r : Stepped) → Loads m table schedule r → Gives m (load table schedule) (said (told (r .answer)) 0) (r .machine)
   steps : (r : Stepped) → StepGives m r → Gives m (call step) (said (told (r .answer)) 0) (r .machine)
   reads : (task signal : ℕ) (r : WordRead) → ReadGives m task signal r → Gives m (call (read task signal)) (said (told (r .answer)) (r .word)) m
-  writes : (task signal word : ℕ) (r : Stepped) → WriteGives m task signal word r → Gives m (call (write task signal word)) (said (told (r .answer)) 0) (r .machine)
+  writes : (task signal w : ℕ) (r : Stepped) → WriteGives m task signal w r → Gives m (call (write task signal (word w))) (said (told (r .answer)) 0) (r .machine)
 
 -- Requests of any kind in any order, each of the machine that the one before left.
 pub data Run : Machine → List Request → List Said → Machine → Type 0 where
@@ -53,7 +54,7 @@ pub record NextCall (tab : Table) (h : List Call) (m : Machine) : Type 0 where
   -- 25 is not given: the state is fit.
   pub ready : fit m ≡ true
   -- A permitted read inside its window is not refused, and gives the value that the signal had when the window opened.
-  pub read-inside : (k s i : ℕ) → Permitted tab (tab .reads) k s → isOpen tab k i (now h) ≡ true → (r : WordRead) → ReadGives m k s r → r ≡ wordRead (Answer.Done 0) (valueAt tab h s (opens tab k i))
+  pub read-inside : (k s i : ℕ) → Permitted tab (tab .reads) k s → isOpen tab k i (now h) ≡ true → (r : WordRead) → ReadGives m k s r → r ≡ wordRead (Answer.Done 0) (wordIn (valueAt tab h s (opens tab k i)))
   -- A permitted write inside its window is not refused, and no step is.
   pub write-inside : (k s w i : ℕ) → Permitted tab (tab .writes) k s → isOpen tab k i (now h) ≡ true → (r : Stepped) → WriteGives m k s w r → r .answer ≡ Answer.Done 0
   pub steps : (r : Stepped) → StepGives m r → r .answer ≡ Answer.Done 0

@@ -18,8 +18,7 @@ use Rattle.rules.specs.Schedule.{Schedule, most, elementOf}
 use Rattle.theory.specs.Sweep.{closingNumber, openingNumber, taskIn, tickIn, isOpening, openingsAt, closingsAfter, events, through, opened, closed, acted, readerOpens, writerOpens, writerCloses, started, sweep, SignalPasses, SweepExact, SweepsExact}
 use Rattle.theory.proofs.Tests.{split, splitOption, both, is, holds, not-both}
 use Rattle.theory.proofs.Time.{highest-some, instance-lt, closes-le}
-use Rattle.theory.proofs.Bound.{bound-signal, bound-value, live-begins}
-use Rattle.theory.proofs.Stores.{value-signal}
+use Rattle.theory.proofs.Bound.{value-signal, bound-signal, bound-value, live-begins}
 use Rattle.theory.proofs.Sweep.{Opened, Begun, Before, begun-le, opens-instance, order, Free, Kept, no-reader, reader-opens, no-writer, writer-opens, nothing-closes, writer-closes, at-start}
 
 -- ---- one after the other

@@ -54,12 +54,11 @@ use Rattle.lives.proofs.live_list.Symbol.{name as #lives·live-list}
 use Rattle.lives.proofs.live_list.Met as listing-thm
 use Rattle.export.specs.declared.Numbered.{Numbered}
 use Rattle.export.specs.Numbers.{numbered}
-use Rattle.export.proofs.Lent.{takes, puts, Numbers, number-fits, place-fits}
 use Rattle.export.proofs.Numbered as N
 use Rattle.export.proofs.Numbered.Laws as N′
 use Rattle.export.proofs.numbers_of.Symbol.{name as #export·numbers-of}
 use Rattle.export.proofs.press_live.Key.{name as #export·press-live}
-use Rattle.export.proofs.Walks.{met, asks, framed, numbers-known, tells-numbers, hands, locals, frees1, frees4}
+use Rattle.export.proofs.Walks.{takes, puts, Numbers, numbers-known, tells-numbers, number-fits, place-fits, met, framed, asks, hands, locals, frees1, frees4}
 use Rattle.export.proofs.press_live as live′
 use Rattle.export.proofs.press_live.Statement as stated
 use Rattle.export.proofs.press_live.Code as code

@@ -4,9 +4,9 @@ use borrow.Author.Needs.{needs}
 use mathlib.Core.Path.{_≡_, refl}
 use Prim.Native.Nat.{_-_, _≤_, _+_}
 use lib.ListN.{set}
-use Rattle.rows.specs.Folds.{upTo}
-use Rattle.rows.proofs.Folds.{acted-none, acted-turn, acted-end}
-use Rattle.loading.specs.Lists.{fillElements}
+use Rattle.rules.specs.Words.{upTo}
+use Rattle.state.proofs.Folds.{acted-none, acted-turn, acted-end}
+use Rattle.loading.specs.Laid.{fillElements}
 use Rattle.loading.proofs.fill_elements.Statement.{statement}
 use Rattle.loading.proofs.fill_elements.Tie as tie
 

@@ -3,7 +3,7 @@ use native.Mathlib.Omega.{arith}
 use borrow.Author.Needs.{needs}
 use mathlib.Core.Path.{sym, _∙_}
 use borrow.Author.Tests.{not-true, not-false}
-use Rattle.loading.specs.Lists.{placeAccess}
+use Rattle.loading.specs.Laid.{placeAccess}
 use Rattle.loading.proofs.place_access.Statement.{statement}
 use Rattle.loading.proofs.place_access.Tie as tie
 
@@ -14,6 +14,7 @@ place-access-spec =
     (tie.spec
     (λ c κs. search needs)
     (λ c. let e = sym (c .before .is-permitted .ensures) ∙ not-true _ (c .if1 .taken) in (rw e, rw e (omega arith)))
+    (λ c. search needs)
     (λ c. search needs)
     (λ c. search needs)
     (λ c. search needs)

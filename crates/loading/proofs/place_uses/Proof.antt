@@ -4,17 +4,18 @@ use borrow.Author.Needs.{needs}
 use mathlib.Core.Path.{_≡_}
 use Prim.Native.Nat.{_-_, _≤_, _+_}
 use lib.ListN.{set}
-use Rattle.rows.specs.Folds.{upTo}
-use Rattle.rows.proofs.Folds.{acted-none, acted-turn, acted-end}
-use Rattle.loading.specs.Lists.{elementIn, placeUses}
+use Rattle.rules.specs.Words.{upTo}
+use Rattle.state.specs.Parts.{uses}
+use Rattle.state.proofs.Folds.{acted-none, acted-turn, acted-end}
+use Rattle.loading.specs.Laid.{elementIn, placeUses}
 use Rattle.loading.proofs.place_uses.Statement.{statement}
 use Rattle.loading.proofs.place_uses.Tie as tie
 
 abbrev Inv-loop : tie.InvT-loop
-Inv-loop uses₀ schedule signal base first n j₀ uses j = (j ≤ n) × (uses ≡ upTo j (λ i l. set l (first + i) (base + elementIn schedule signal (first + i))) uses₀)
+Inv-loop numbers₀ schedule signal base first n j₀ numbers j = (j ≤ n) × (numbers ≡ upTo j (λ i l. set l (uses + (first + i)) (base + elementIn schedule signal (first + i))) numbers₀)
 
 abbrev μ-loop : tie.MeasureT-loop
-μ-loop uses₀ schedule signal base first n j₀ uses j = n - j
+μ-loop numbers₀ schedule signal base first n j₀ numbers j = n - j
 
 pub place-uses-spec : {M : Type 1} → statement M
 unfolding placeUses
@@ -32,6 +33,7 @@ place-uses-spec =
     (λ c. search needs)
     (λ c. search needs)
     (λ c κs. search needs)
+    (λ c. search needs)
     (λ c. search needs)
     (λ c. search needs)
     (λ c. search needs)

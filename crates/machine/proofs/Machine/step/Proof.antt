@@ -1,6 +1,13 @@
+-- As over lent lists.
 use borrow.Author.Needs.{needs}
+use mathlib.Core.Path.{ap}
+use Rattle.machine.specs.Calls.{leaving}
 use Rattle.machine.proofs.Machine.step.Statement.{statement}
 use Rattle.machine.proofs.Machine.step.Tie as tie
 
 pub step-spec : {M : Type 1} → statement M
-step-spec = tie.close (tie.spec (λ c κs. search needs) (λ c. c .step .ensures))
+step-spec =
+    tie.close
+    (tie.spec
+    (λ c κs. search needs)
+    (λ c. ap (leaving (c .before .before .before .before .before .before .before .args .t1)) (c .step .ensures)))

@@ -29,7 +29,7 @@ returns-2 c =
 
 start-requires : tie.Need-start-requires
 start-requires c κs =
-    let passed = c .before .before .before .before .before .before .before .before .before .before .before .before .before .before .before in
+    let passed = c .before .before .before .before in
     let check = passed .before .before in
     let done = check .before .before .before in
     let read = done .before .before in
@@ -38,7 +38,7 @@ start-requires c κs =
 
 returns-3 : tie.Need-returns-3
 returns-3 c =
-    let passed = c .before .before .before .before .before .before .before .before .before .before .before .before .before .before .before .before in
+    let passed = c .before .before .before .before .before in
     let check = passed .before .before in
     let done = check .before .before .before in
     let read = done .before .before in

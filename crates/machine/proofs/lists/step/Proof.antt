@@ -1,26 +1,27 @@
--- A step over lent lists: the next tick is in this hyper-period, or it is H.
-use native.Mathlib.Omega.{arith}
+-- Closings, the next tick, openings, one after the other.
 use borrow.Author.Needs.{needs}
-use borrow.Author.Tests.{not-false}
-use mathlib.Core.Path.{_≡_, sym, _∙_}
-use mathlib.Core.Logic.{⊎-elim}
-use mathlib.Core.Bool.{true}
+use mathlib.Core.Path.{_≡_}
+use Rattle.rules.specs.declared.Answer.{Answer}
 use Rattle.fields.proofs.Whens.{ladder}
-use Rattle.machine.specs.Calls.{fit, closed, opened, stepOf}
-use Rattle.machine.specs.Lists.{ofLists}
-use Rattle.machine.proofs.Steps.{fit-keeps, goes-on, turns-over}
+use Prim.Native.Nat.{ℕ}
+use mathlib.Core.List.{List}
+use Rattle.state.specs.Rows.{published, openings, advanced}
+use Rattle.machine.specs.Calls.{left, opened, stepIn}
 use Rattle.machine.proofs.lists.step.Statement.{statement}
 use Rattle.machine.proofs.lists.step.Tie as tie
 
+moved : (n d s n₁ n₂ s₂ out : List ℕ) → n₁ ≡ published n → n₂ ≡ advanced n₁ s .numbers → s₂ ≡ advanced n₁ s .store → out ≡ openings n₂ d s₂
+    → left (Answer.Done 0) n₂ out ≡ opened d (advanced (published n) s)
+moved n d s n₁ n₂ s₂ out p a b o = rw (o, a, b, p)
+
 pub step-spec : {M : Type 1} → statement M
-unfolding fit closed opened stepOf
+unfolding stepIn
 step-spec =
     tie.close
     (tie.spec
     (λ c κs. search needs)
     (λ c. search ladder)
     (λ c κs. search needs)
-    (λ c. let a = c .before .before .before .before .before .before .args in let m = ofLists (a .loaded) (a .hyper) (a .tick .now) (a .periods .now) (a .starts .now) (a .ends .now) (a .counts .now) (a .reads .now) (a .writes .now) (a .uses .now) (a .defaults .now) (a .carried .now) (a .held .now) (a .store .now) in let f : fit m ≡ true = sym (c .before .before .before .is-fit .ensures) ∙ not-false _ (c .before .before .if1 .left) in omega (arith, fit-keeps m f))
     (λ c κs. search needs)
     (λ c κs. search needs)
-    (λ c. let a = c .before .before .before .before .before .before .before .before .before .args in let m = ofLists (a .loaded) (a .hyper) (a .tick .now) (a .periods .now) (a .starts .now) (a .ends .now) (a .counts .now) (a .reads .now) (a .writes .now) (a .uses .now) (a .defaults .now) (a .carried .now) (a .held .now) (a .store .now) in let f : fit m ≡ true = sym (c .before .before .before .before .before .before .is-fit .ensures) ∙ not-false _ (c .before .before .before .before .before .if1 .left) in ⊎-elim (λ w. turns-over m f _ _ _ _ _ (w .0 .taken) (w .5) (w .6) (c .before .before .before .publish-all .ensures) (w .7 ∙ w .3 .ensures) (c .open-all .ensures)) (λ w. goes-on m f _ _ _ _ (w .0 .left) (w .1) (w .2 ∙ c .before .before .before .publish-all .ensures) (w .3) (c .open-all .ensures)) (c .before .before .if2 .came)))
+    (λ c. let a = c .before .before .before .before .before .before .before .before .before .before .before .args in let e = moved (a .numbers .now) (a .defaults .now) (a .store .now) _ _ _ _ (c .before .before .before .before .before .before .publish-all .ensures) (c .before .before .before .advance .ensures .0) (c .before .before .before .advance .ensures .1) (c .open-all .ensures) in search (ladder, e)))

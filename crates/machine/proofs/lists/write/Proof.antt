@@ -1,25 +1,24 @@
 -- The tests follow the definition's order.
 use borrow.Author.Needs.{needs}
-use mathlib.Core.Path.{sym, _∙_, ap}
+use mathlib.Core.Path.{sym, ap, _∙_}
 use Rattle.rules.specs.declared.Answer.{Answer}
 use Rattle.fields.proofs.Whens.{ladder}
-use Rattle.machine.specs.Calls.{fit, at, writeOf, writePlace, writtenAt, answered}
-use Rattle.machine.specs.Lists.{ofLists}
+use Rattle.machine.specs.Calls.{left, writtenAt, writeIn}
 use Rattle.machine.proofs.lists.write.Statement.{statement}
 use Rattle.machine.proofs.lists.write.Tie as tie
 
 pub write-spec : {M : Type 1} → statement M
-unfolding fit writePlace writeOf
+unfolding writeIn
 write-spec =
     tie.close
     (tie.spec
     (λ c κs. search needs)
-    (λ c d. search ladder)
+    (λ c. search ladder)
     (λ c κs. search needs)
     (λ c. search needs)
     (λ c κs. search needs)
     (λ c. search needs)
     (λ c. search needs)
-    (λ c d. let a = c .before .before .before .before .before .before .before .before .args in let m = ofLists (a .loaded) (a .hyper) (a .tick) (a .periods .now) (a .starts .now) (a .ends .now) (a .counts .now) (a .reads .now) (a .writes .now) (a .uses .now) d (a .carried .now) (a .held .now) (a .store .now) in let e = ap (λ s. answered (Answer.Done 0) (at m (m .tick) (m .held) s)) (c .save .ensures) ∙ ap (writtenAt m (a .word)) (sym (c .before .before .before .position .given .1) ∙ c .before .before .before .before .before .locate .ensures) in search (ladder, e))
-    (λ c d. let a = c .before .before .before .before .before .args in let m = ofLists (a .loaded) (a .hyper) (a .tick) (a .periods .now) (a .starts .now) (a .ends .now) (a .counts .now) (a .reads .now) (a .writes .now) (a .uses .now) d (a .carried .now) (a .held .now) (a .store .now) in let e = ap (writtenAt m (a .word)) (sym (c .enum-told .given .1) ∙ c .before .before .locate .ensures) in search (ladder, e))
-    (λ c d. let a = c .before .before .before .before .before .args in let m = ofLists (a .loaded) (a .hyper) (a .tick) (a .periods .now) (a .starts .now) (a .ends .now) (a .counts .now) (a .reads .now) (a .writes .now) (a .uses .now) d (a .carried .now) (a .held .now) (a .store .now) in let e = ap (writtenAt m (a .word)) (sym (c .enum-told2 .given .1) ∙ c .before .before .locate .ensures) in search (ladder, e)))
+    (λ c. let a = c .before .before .before .before .before .before .before .before .args in let e = ap (left (Answer.Done 0) (a .numbers .now)) (c .save .ensures) ∙ ap (writtenAt (a .numbers .now) (a .store .now) (a .word)) (sym (c .before .before .before .position .given .1) ∙ c .before .before .before .before .before .locate .ensures) in search (ladder, e))
+    (λ c. let a = c .before .before .before .before .before .args in let e = ap (writtenAt (a .numbers .now) (a .store .now) (a .word)) (sym (c .enum-told .given .1) ∙ c .before .before .locate .ensures) in search (ladder, e))
+    (λ c. let a = c .before .before .before .before .before .args in let e = ap (writtenAt (a .numbers .now) (a .store .now) (a .word)) (sym (c .enum-told2 .given .1) ∙ c .before .before .locate .ensures) in search (ladder, e)))
