@@ -2,7 +2,7 @@
 use Rattle.simulation.proofs.Fit.{unfit-exact, refused-leaves}
 use Rattle.simulation.proofs.Started.{stays-fit}
 use Rattle.promises.specs.Demands.{Demands}
-use Rattle.promises.proofs.Tables.{tables-exactly}
+use Rattle.promises.proofs.Tables.{tables-exactly, tables-first}
 use Rattle.promises.proofs.Plans.{all-plans-rightly}
 use Rattle.promises.proofs.Lists.{all-lists-rightly}
 use Rattle.promises.proofs.Schedules.{schedules-exactly, plans-pass}
@@ -11,6 +11,7 @@ use Rattle.promises.proofs.Runs.{loads-exactly, runs-as-promised}
 pub demands-met : Demands
 demands-met = record {
   first = record {
+    tables = tables-first;
     plan = λ table out r after g. all-plans-rightly table out r after g .unchanged;
     list = λ table signal list r after g. all-lists-rightly table signal list r after g .unchanged;
     load = λ m table schedule r g. loads-exactly m table schedule r g .refused;

@@ -1,4 +1,4 @@
--- Tables are accepted exactly: specs/Tables.antt, proved.
+-- Tables are accepted exactly, and a refusal tells the first broken rule: specs/Tables.antt, proved.
 use Prim.Native.Nat.{ℕ}
 use mathlib.Core.Path.{_≡_, sym, ap, subst, _∙_}
 use mathlib.Core.List.{List}
@@ -7,26 +7,15 @@ use Rattle.rules.specs.Windows.{Table}
 use Rattle.rules.specs.Table.{Fits}
 use Rattle.rules.specs.Numbers.{Told, told, allDone}
 use Rattle.rules.specs.Encode.{encode}
-use Rattle.rules.specs.Records.{End}
-use Rattle.rules.specs.Answers.{tableSays}
-use Rattle.rules.specs.Reading.{tableOf, tableIn, endOf, readSays, verdict}
-use Rattle.theory.specs.First.{FirstBroken, tableRules, BrokenTable, tableTold}
+use Rattle.rules.specs.Reading.{tableOf, tableIn, readSays}
+use Rattle.theory.specs.FirstRecord.{ReadFirst}
 use Rattle.theory.specs.TableBytes.{SameTable, Wide}
-use Rattle.theory.proofs.Proved.{table-accepted-exactly, table-reads-back, table-says-first}
+use Rattle.theory.proofs.Proved.{table-accepted-exactly, table-reads-back, read-says-first, whatever-is-read-keeps}
 use Rattle.theory.proofs.Same.{same-hyper}
 use Rattle.table.specs.declared.reading.TableRead.{TableRead}
 use Rattle.table.specs.Gives.{TableGives}
 use Rattle.table.proofs.Exact.{table-exact, answer-says, table-is, hyper-read}
-use Rattle.promises.specs.Tables.{TablesExactly}
-
--- what reading says, by how the records end
-refusal : (bytes : List ℕ) (t : Told) → endOf bytes ≡ End.refused t → readSays bytes ≡ t
-unfolding readSays verdict
-refusal bytes t e = ap (verdict (tableIn bytes)) e
-
-judged : (bytes : List ℕ) (p : ℕ) → endOf bytes ≡ End.at p → readSays bytes ≡ tableSays (tableIn bytes)
-unfolding readSays verdict
-judged bytes p e = ap (verdict (tableIn bytes)) e
+use Rattle.promises.specs.Tables.{TablesExactly, TablesFirst}
 
 module _ (bytes : List ℕ) (r : TableRead) (g : TableGives bytes r) where
   answer-is : told (r .answer) ≡ readSays bytes
@@ -41,7 +30,12 @@ tables-exactly bytes o r g = record {
   accepted = subst (λ (t : Told). (t .number ≡ allDone) ↔ ((tab : Table) × Fits tab × Wide tab × (bytes ≡ encode tab))) (sym (answer-is bytes r g)) (table-accepted-exactly bytes o);
   same = λ d h tab F w e. subst (λ (x : Table). SameTable x tab) (sym (ap (tableOf (r .tasks) (r .signals)) h ∙ table-is bytes r g)) (read-same bytes r g tab F w e);
   period = λ tab F w e. hyper-read bytes r g (ap (λ (x : List ℕ). readSays x .number) e ∙ ap (λ (t : Told). t .number) (table-reads-back tab F w .0)) ∙ same-hyper (tableIn bytes) tab (read-same bytes r g tab F w e);
-  record-refused = λ t e. answer-is bytes r g ∙ refusal bytes t e;
-  whole-refused = λ p e. subst (FirstBroken (BrokenTable (tableIn bytes)) tableTold (tableRules (tableIn bytes))) (sym (answer-is bytes r g ∙ judged bytes p e)) (table-says-first (tableIn bytes));
   one = λ q h. table-exact q r (h ∙ sym g);
+}
+
+pub tables-first : TablesFirst
+tables-first bytes r g = record {
+  first = subst (ReadFirst bytes) (sym (answer-is bytes r g)) (read-says-first bytes);
+  least = whatever-is-read-keeps bytes .least;
+  same = answer-is bytes r g;
 }

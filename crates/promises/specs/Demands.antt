@@ -14,7 +14,7 @@ use Rattle.machine.specs.declared.Machine.{Machine}
 use Rattle.machine.specs.declared.Stepped.{Stepped}
 use Rattle.machine.specs.Load.{Loads}
 use Rattle.simulation.specs.Fit.{UnfitExact, StaysFit, RefusedLeaves}
-use Rattle.promises.specs.Tables.{TablesExactly}
+use Rattle.promises.specs.Tables.{TablesExactly, TablesFirst}
 use Rattle.promises.specs.Plans.{AllPlansRightly}
 use Rattle.promises.specs.Lists.{AllListsRightly}
 use Rattle.promises.specs.Schedules.{SchedulesExactly, PlansPass}
@@ -24,9 +24,12 @@ use Rattle.promises.specs.Runs.{RunsAsPromised, LoadsExactly}
 abbrev pub Refused : Answer → Type 0
 Refused r = told r .number ≡ allDone → ⊥
 
--- 1. Every call ends with an answer, however bad what it is given: no function above has a `requires`, and the checker proves that each ends. A refusal
--- says which rule broke and where (`record-refused`, `whole-refused` and `first-broken` in Tables, Plans, Lists and Schedules), and changes nothing lent:
+-- 1. Every call ends with an answer, however bad what it is given: no function above has a `requires`, and the checker proves that each ends.
 pub record Demand1 : Type 0 where
+  -- A refusal says which rule broke and where: of a table the first that the first wrong record breaks, else the first that the whole table breaks (and
+  -- `first-broken` in Plans, Lists and Schedules says it of a plan, a live list and a schedule);
+  pub tables : TablesFirst
+  -- and it changes nothing lent:
   -- not the buffer to plan into,
   pub plan : (table out : List ℕ) (r : Answer) (after : List ℕ) → PlanGives table out r after → Refused r → after ≡ out
   -- not the list of records,

@@ -1,16 +1,16 @@
--- Demand 2, first sentence, about `table::read_table` and `sections::grid::read_grid`: a table is accepted exactly when document 01's rules hold. proofs/Tables.antt proves it.
--- Assumes nothing.
+-- Demands 1 and 2 about `table::read_table` and `sections::grid::read_grid`: a table is accepted exactly when document 01's rules hold, and a refusal tells
+-- the first rule that is broken, and where. proofs/Tables.antt proves it. Assumes nothing.
 use Prim.Native.Nat.{ℕ}
 use mathlib.Core.Path.{_≡_}
 use mathlib.Core.List.{List}
 use mathlib.Core.Logic.{_↔_}
 use Rattle.rules.specs.Windows.{Table, hyper}
 use Rattle.rules.specs.Table.{Fits}
-use Rattle.rules.specs.Numbers.{Told, told, allDone}
+use Rattle.rules.specs.Numbers.{told, allDone}
 use Rattle.rules.specs.Encode.{encode}
-use Rattle.rules.specs.Records.{End}
-use Rattle.rules.specs.Reading.{Grid, tableOf, tableIn, endOf}
-use Rattle.theory.specs.First.{FirstBroken, tableRules, BrokenTable, tableTold}
+use Rattle.rules.specs.Reading.{Grid, tableOf, tableIn, readSays}
+use Rattle.theory.specs.Promises.{IsLeast}
+use Rattle.theory.specs.FirstRecord.{ReadFirst}
 use Rattle.theory.specs.TableBytes.{SameTable, Wide, AreBytes}
 use Rattle.sections.specs.Gives.{GridGives}
 use Rattle.table.specs.declared.reading.TableRead.{TableRead}
@@ -23,13 +23,20 @@ pub record ReadExactly (bytes : List ℕ) (r : TableRead) : Type 0 where
   pub same : (g : Grid) → GridGives bytes g → (tab : Table) → Fits tab → Wide tab → bytes ≡ encode tab → SameTable (tableOf (r .tasks) (r .signals) g) tab
   -- with its hyper-period.
   pub period : (tab : Table) → Fits tab → Wide tab → bytes ≡ encode tab → r .hyper ≡ hyper tab
-  -- A record that is refused gives the number and place of its first broken rule, 1 to 6, as `Records` lists them;
-  pub record-refused : (t : Told) → endOf bytes ≡ End.refused t → told (r .answer) ≡ t
-  -- where all records are read, the first broken rule of 7 to 11 gives them.
-  pub whole-refused : (p : ℕ) → endOf bytes ≡ End.at p → FirstBroken (BrokenTable (tableIn bytes)) tableTold (tableRules (tableIn bytes)) (told (r .answer))
   -- No other result meets the contract.
   pub one : (q : TableRead) → TableGives bytes q → q ≡ r
 
 -- So it is for all bytes.
 abbrev pub TablesExactly : Type 0
 TablesExactly = (bytes : List ℕ) → AreBytes bytes → (r : TableRead) → TableGives bytes r → ReadExactly bytes r
+
+pub record TellsFirst (bytes : List ℕ) (r : TableRead) : Type 0 where
+  -- The answer is that of the first broken rule, and where: theory/specs/FirstRecord.antt says of the bytes alone when a record breaks each of 1 to 6.
+  pub first : ReadFirst bytes (told (r .answer))
+  -- H, by which 8 goes, is the least common multiple of the periods that are read.
+  pub least : IsLeast (tableIn bytes .period) (tableIn bytes .tasks) (hyper (tableIn bytes))
+  -- It is `readSays`, which planning, the live list and the check tell too of a table that is refused (`table-refused`).
+  pub same : told (r .answer) ≡ readSays bytes
+
+abbrev pub TablesFirst : Type 0
+TablesFirst = (bytes : List ℕ) (r : TableRead) → TableGives bytes r → TellsFirst bytes r

@@ -35,6 +35,12 @@ first-one Broken says o (x ∷ xs) t u (this b) (later n q) = absurd (n b)
 first-one Broken says o (x ∷ xs) t u (later n p) (this b) = absurd (n b)
 first-one Broken says o (x ∷ xs) t u (later n p) (later m q) = first-one Broken says o xs t u p q
 
+-- what holds of each rule's answer, and where none is broken, holds of the first
+pub told-by : {A : Type 0} {Broken : A → Type 0} {says : A → Told} {otherwise : Told} {xs : List A} {t : Told} (Q : Told → Type 0) → ((x : A) → Q (says x)) → Q otherwise → FirstBrokenElse Broken says otherwise xs t → Q t
+told-by Q f d done = d
+told-by Q f d (this {x = x} b) = f x
+told-by Q f d (later n r) = told-by Q f d r
+
 module _ {A : Type 0} {Broken : A → Type 0} {says : A → Told} {otherwise : Told} where
   -- one test of a ladder, exact for its rule
   pub rung : {b : Bool} {x : A} {xs : List A} {t : Told} → (b ≡ true) ↔ Broken x → FirstBrokenElse Broken says otherwise xs t → FirstBrokenElse Broken says otherwise (x ∷ xs) (when b (says x) t)
@@ -77,21 +83,26 @@ equal a b = (eqb-true a b, eq-eqb a b)
 fails : {P : Type 0} (b : Bool) → (b ≡ false → P) → (P → b ≡ true → ⊥) → (not b ≡ true) ↔ P
 fails b f g = ((λ e. f (not-is b e)), λ x. ap not (no-test b (g x)))
 
-not-less : (a b : ℕ) → (not (ltb a b) ≡ true) ↔ (b ≤ a)
+pub not-less : (a b : ℕ) → (not (ltb a b) ≡ true) ↔ (b ≤ a)
 not-less a b = fails (ltb a b) (ltb-false a b) (λ h e. omega (arith, ltb-true a b e))
 
 not-equal : (a b : ℕ) → (not (eqb a b) ≡ true) ↔ (a ≢ b)
 not-equal a b = fails (eqb a b) (eqb-false a b) (λ n e. n (eqb-true a b e))
 
-not-counted : (c m : ℕ) → (not (leb 1 c && leb c m) ≡ true) ↔ ((c ≡ 0) ⊎ (m < c))
-not-counted c m = fails (leb 1 c && leb c m) wrong right
+-- of two tests one is to fail
+pub either-fails : {P Q : Type 0} (a b : Bool) → (not a ≡ true) ↔ P → (not b ≡ true) ↔ Q → (not (a && b) ≡ true) ↔ (P ⊎ Q)
+either-fails {P} {Q} true b e f = ((λ h. inr (f .0 h)), back)
   where
-    wrong : (leb 1 c && leb c m) ≡ false → (c ≡ 0) ⊎ (m < c)
-    wrong e = split (leb 1 c) (λ a. inr (leb-false c m (and-not (leb 1 c) (leb c m) a e))) (λ a. inl (omega (arith, leb-false 1 c a)))
+    back : P ⊎ Q → not b ≡ true
+    back (inl x) = absurd (false≢true (e .1 x))
+    back (inr y) = f .1 y
+either-fails false b e f = ((λ h. inl (e .0 h)), λ x. refl)
 
-    right : (c ≡ 0) ⊎ (m < c) → (leb 1 c && leb c m) ≡ true → ⊥
-    right (inl z) e = omega (arith, leb-true 1 c (both (leb 1 c) (leb c m) e .0))
-    right (inr h) e = omega (arith, leb-true c m (both (leb 1 c) (leb c m) e .1))
+pub not-at-most : (a b : ℕ) → (not (leb a b) ≡ true) ↔ (b < a)
+not-at-most a b = fails (leb a b) (leb-false a b) (λ h e. omega (arith, leb-true a b e))
+
+pub not-counted : (c m : ℕ) → (not (leb 1 c && leb c m) ≡ true) ↔ ((c ≡ 0) ⊎ (m < c))
+not-counted c m = either-fails (leb 1 c) (leb c m) (fails (leb 1 c) (λ e. omega (arith, leb-false 1 c e)) (λ z e. omega (arith, leb-true 1 c e))) (not-at-most c m)
 
 earlier : (l j k i : ℕ) → ((ltb l k || (eqb l k && ltb j i)) ≡ true) ↔ ((l < k) ⊎ ((l ≡ k) × (j < i)))
 earlier l j k i = ((λ e. there (or-cases (ltb l k) (eqb l k && ltb j i) e)), back)

@@ -1,12 +1,12 @@
 -- What was read of a table, as three lists: bytes that are accepted are written back from them, and all keep rules 3 and 4. Assumes nothing.
-use Prim.Native.Nat.{ℕ, zero, suc, _+_, _≤_}
+use Prim.Native.Nat.{ℕ, zero, suc, _+_, _≤_, _<_}
 use mathlib.Core.Path.{_≡_, refl, sym, ap, subst, _∙_}
 use mathlib.Core.Bool.{true, not}
 use mathlib.Core.List.{List, _∷_, _++_, flatMap}
 use native.Mathlib.Omega.{arith}
 use lib.Dec.{ltb}
 use lib.ListN.{length, getD, drop, drop-of-length-le}
-use borrow.Author.Tests.{ltb-false, not-false}
+use borrow.Author.Tests.{leb-true, ltb-true, ltb-false, not-false}
 use Rattle.rules.specs.Windows.{Table}
 use Rattle.rules.specs.Table.{mostTasks, mostSignals, mostAccesses, windowed, windowFits}
 use Rattle.rules.specs.Fields.{EN, holdsAt, markAt}
@@ -17,8 +17,9 @@ use Rattle.rules.specs.declared.Task.{Task}
 use Rattle.rules.specs.declared.Access.{Access}
 use Rattle.theory.specs.Promises.{Read}
 use Rattle.theory.specs.TableBytes.{Wide, AreBytes, WrittenBack, ReadKeeps}
-use Rattle.theory.proofs.Tests.{when-right}
+use Rattle.theory.proofs.Tests.{both3, when-right}
 use Rattle.theory.proofs.Lists.{All, all-at}
+use Rattle.theory.proofs.Hyper.{hyper-is-least}
 use Rattle.theory.proofs.Answered.{table-exact}
 use Rattle.theory.proofs.Sections.{Kind, Spans, over, stopped, join, puts, Fitting, puts-keep, fitting-all, puts-count, Places, places-few, places-at, Walked, walked, walked-from}
 use Rattle.theory.proofs.Records.{taskForm, signalForm, accessForm, taskKind, task-lawful, signalKind, signal-lawful, accessKind, access-lawful, mark-written}
@@ -153,8 +154,19 @@ module _ (bytes : List ℕ) where
       accepted-spans (tableIn bytes) readBytes (accessesOf bytes .end)
       (rw (same-end (signalsOf bytes .end) (tasksIn bytes .read .count) (signalsOf bytes .read .count)) (join (join (tasks-walked .spans) (signals-walked .spans)) (accesses-walked .spans)))
 
+  period-above : (k : ℕ) → k < tableIn bytes .tasks → 0 < tableIn bytes .period k
+  unfolding windowFits windowed
+  period-above k h =
+      let w = both3 (ltb (tableIn bytes .start k) (tableIn bytes .end k)) _ _ (read .windows k h) in
+      omega (arith, ltb-true (tableIn bytes .start k) (tableIn bytes .end k) (w .0), leb-true (tableIn bytes .end k) (tableIn bytes .period k) (w .1))
+
   pub read-keeps : ReadKeeps bytes
-  read-keeps = record { read = read; accepted = λ e. table-exact (tableIn bytes) read .0 (accepted e .0); whole = λ e. accepted e .2 }
+  read-keeps = record {
+    read = read;
+    least = hyper-is-least (tableIn bytes) period-above;
+    accepted = λ e. table-exact (tableIn bytes) read .0 (accepted e .0);
+    whole = λ e. accepted e .2;
+  }
 
   read-wide : AreBytes bytes → Wide (tableIn bytes)
   read-wide o s h =

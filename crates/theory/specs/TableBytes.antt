@@ -5,13 +5,13 @@ use mathlib.Core.Path.{_≡_}
 use mathlib.Core.List.{List}
 use mathlib.Core.Logic.{_↔_}
 use lib.ListN.{getD}
-use Rattle.rules.specs.Windows.{Table}
+use Rattle.rules.specs.Windows.{Table, hyper}
 use Rattle.rules.specs.Table.{Fits}
 use Rattle.rules.specs.Numbers.{tell}
 use Rattle.rules.specs.Encode.{encode}
 use Rattle.rules.specs.Records.{End}
 use Rattle.rules.specs.Reading.{tableIn, readSays, endOf}
-use Rattle.theory.specs.Promises.{Read}
+use Rattle.theory.specs.Promises.{Read, IsLeast}
 
 -- The two tables agree on their tasks, their signals, and on who reads and writes what.
 pub record SameTable (a b : Table) : Type 0 where
@@ -48,8 +48,10 @@ AcceptedExactly bytes = AreBytes bytes → (readSays bytes .number ≡ 0) ↔ ((
 abbrev pub OneTable : Table → Table → Type 0
 OneTable a b = Fits a → Wide a → Fits b → Wide b → encode a ≡ encode b → SameTable a b
 
--- Of any bytes, refused ones too, the records read so far keep rules 3 and 4; so a table that is accepted keeps all of them, and was read to its end.
+-- Of any bytes, refused ones too, the records read so far keep rules 3 and 4, and their hyper-period is the least common multiple of the periods, so that
+-- 8 is exact; a table that is accepted keeps all rules, and was read to its end.
 pub record ReadKeeps (bytes : List ℕ) : Type 0 where
   pub read : Read (tableIn bytes)
+  pub least : IsLeast (tableIn bytes .period) (tableIn bytes .tasks) (hyper (tableIn bytes))
   pub accepted : readSays bytes .number ≡ 0 → Fits (tableIn bytes)
   pub whole : readSays bytes .number ≡ 0 → (p : ℕ) × (endOf bytes ≡ End.at p)
