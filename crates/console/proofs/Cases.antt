@@ -4,10 +4,10 @@ use mathlib.Core.Path.{_≡_, refl}
 use mathlib.Core.Bool.{true, false}
 use mathlib.Core.List.{List, [], _∷_, map}
 use Rattle.rules.specs.Words.{when}
+use Rattle.rules.specs.Listing.{ascii, figures, decimalOf}
 use Rattle.console.specs.declared.digits.Numeral.{Numeral}
 use Rattle.console.specs.declared.command.Command.{Command}
-use Rattle.console.specs.Ascii.{ascii}
-use Rattle.console.specs.Page.{glyphOf, figures, decimalOf, pairsOf, hexOf}
+use Rattle.console.specs.Page.{glyphOf, pairsOf, hexOf}
 use Rattle.console.specs.Words.{lengthBefore, marksIn, sameBytes}
 use Rattle.console.specs.Digits.{within, digitOf, allDigits, valueOf, limited, numberOf, isHex, bytesOf}
 use Rattle.console.specs.Commands.{anyNumber, onHex, alone, withOne, withTwo, withThree, isQuiet, commandOf}
@@ -38,7 +38,7 @@ numbers = refl
 
 pub decimals : map decimalOf (0 ∷ 9 ∷ 10 ∷ 10000 ∷ 18446744073709551615 ∷ [])
     ≡ map ascii ("0" ∷ "9" ∷ "10" ∷ "10000" ∷ "18446744073709551615" ∷ [])
-unfolding when glyphOf figures
+unfolding when figures
 decimals = refl
 
 pub bytes : map (λ (w : String). bytesOf (ascii w)) ("454e" ∷ "454E" ∷ "00fF" ∷ "-" ∷ [])

@@ -7,15 +7,21 @@ use native.Mathlib.Omega.{arith}
 use lib.ListN.{length}
 use lib.Dec.{leb}
 use borrow.Author.Tests.{lt-ltb, le-ltb, leb-true}
+use Rattle.rules.specs.Listing.{digit, figures}
 use Rattle.console.specs.declared.digits.Numeral.{Numeral}
 use Rattle.console.specs.Ascii.{dash}
-use Rattle.console.specs.Page.{Page, putOne, putAll, glyphOf, figures, pairsOf, hexOf}
+use Rattle.console.specs.Page.{Page, putOne, putAll, glyphOf, pairsOf, hexOf}
 use Rattle.console.specs.Digits.{within, limited}
 use Rattle.fields.proofs.Whens.{on, off}
 use Rattle.console.proofs.Turns.{put-append}
 
 pub put-one : (p : Page) {g d : ℕ} {r : Page} → r ≡ putOne g p → g ≡ d → r ≡ putOne d p
 put-one p e f = e ∙ ap (λ (x : ℕ). putOne x p) f
+
+-- a decimal digit
+decimal-digit : (d : ℕ) {g : ℕ} → d < 10 → g ≡ glyphOf d → g ≡ digit d
+unfolding glyphOf
+decimal-digit d h k = k ∙ on _ _ (lt-ltb d 10 h)
 
 -- no figures
 pub figures-none : (most n : ℕ) (p : Page) → most ≡ 0 → p ≡ putAll (figures most n) p
@@ -27,7 +33,7 @@ pub figures-one : (most n : ℕ) (p : Page) {g : ℕ} {r : Page} → (most ≡ 0
 unfolding putAll figures
 figures-one zero n p f h e k = absurd (f refl)
 figures-one (suc most) n p f h e k =
-    put-one p e k ∙ sym (ap (λ (l : List ℕ). putAll l p) (on (glyphOf n ∷ []) (figures most (n / 10) ++ (glyphOf (n % 10) ∷ [])) (lt-ltb n 10 h)))
+    put-one p e (decimal-digit n h k) ∙ sym (ap (λ (l : List ℕ). putAll l p) (on (digit n ∷ []) (figures most (n / 10) ++ digit (n % 10) ∷ []) (lt-ltb n 10 h)))
 
 -- the front figures, and the last
 pub figures-more : (most n : ℕ) (p : Page) {g : ℕ} {q r : Page} → (most ≡ 0 → ⊥) → 10 ≤ n → q ≡ putAll (figures (most - 1) (n / 10)) p → r ≡ putOne g q → g ≡ glyphOf (n % 10) → r ≡ putAll (figures most n) p
@@ -35,10 +41,10 @@ unfolding putAll figures
 figures-more zero n p f h front e k = absurd (f refl)
 figures-more (suc most) n p {q = q} f h front e k =
     let less : suc most - 1 ≡ most = omega arith in
-    put-one q e k
-    ∙ ap (putOne (glyphOf (n % 10))) (front ∙ ap (λ (m : ℕ). putAll (figures m (n / 10)) p) less)
-    ∙ sym (put-append (figures most (n / 10)) (glyphOf (n % 10) ∷ []) p)
-    ∙ sym (ap (λ (l : List ℕ). putAll l p) (off (glyphOf n ∷ []) (figures most (n / 10) ++ (glyphOf (n % 10) ∷ [])) (le-ltb n 10 h)))
+    put-one q e (decimal-digit (n % 10) (omega arith) k)
+    ∙ ap (putOne (digit (n % 10))) (front ∙ ap (λ (m : ℕ). putAll (figures m (n / 10)) p) less)
+    ∙ sym (put-append (figures most (n / 10)) (digit (n % 10) ∷ []) p)
+    ∙ sym (ap (λ (l : List ℕ). putAll l p) (off (digit n ∷ []) (figures most (n / 10) ++ digit (n % 10) ∷ []) (le-ltb n 10 h)))
 
 -- what a test of bounds says
 and-left : (a b : Bool) → (a && b) ≡ true → a ≡ true

@@ -1,13 +1,7 @@
 -- The characters and the words of the console's language, in ASCII. Assumes nothing.
 use Prim.Native.Nat.{ℕ}
-use Prim.Native.Char.{code}
-use Prim.Native.String.{String, [], _∷_}
-use mathlib.Core.List.{List, [] as []ᴸ, _∷_ as _∷ᴸ_}
-
--- a text as bytes
-abbrev pub ascii : String → List ℕ
-ascii [] = []ᴸ
-ascii (c ∷ s) = code c ∷ᴸ ascii s
+use mathlib.Core.List.{List}
+use Rattle.rules.specs.Listing.{ascii}
 
 abbrev pub space : ℕ
 space = 32

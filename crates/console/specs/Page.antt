@@ -1,9 +1,10 @@
--- The writing side: a lent buffer as a page that is filled from the front, and numbers and bytes as text. Assumes nothing.
-use Prim.Native.Nat.{ℕ, zero, suc, _+_, _/_, _%_}
-use mathlib.Core.List.{List, [], _∷_, _++_}
+-- The writing side: a lent buffer as a page that is filled from the front, and bytes as text. Assumes nothing.
+use Prim.Native.Nat.{ℕ, _+_, _/_, _%_}
+use mathlib.Core.List.{List, [], _∷_}
 use lib.ListN.{length, set}
 use lib.Dec.{ltb}
 use Rattle.rules.specs.Words.{when}
+use Rattle.rules.specs.Listing.{digit}
 use Rattle.console.specs.Ascii.{dash}
 
 -- a lent buffer, and how many of its bytes are in use
@@ -25,16 +26,7 @@ putAll (b ∷ bs) p = putAll bs (putOne b p)
 
 -- the digit below 16: 0 to 9, then A to F
 unfoldable pub glyphOf : ℕ → ℕ
-glyphOf d = when (ltb d 10) (48 + d) (55 + d)
-
--- the last figures of n in decimal, no more than this many, with no zero in front
-unfoldable pub figures : ℕ → ℕ → List ℕ
-figures zero n = []
-figures (suc most) n = when (ltb n 10) (glyphOf n ∷ []) (figures most (n / 10) ++ (glyphOf (n % 10) ∷ []))
-
--- n in decimal: a number of 64 bits has no more than 20 figures
-abbrev pub decimalOf : ℕ → List ℕ
-decimalOf n = figures 20 n
+glyphOf d = when (ltb d 10) (digit d) (55 + d)
 
 -- two digits for each byte
 unfoldable pub pairsOf : List ℕ → List ℕ

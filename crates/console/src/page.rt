@@ -6,7 +6,8 @@ use crate::bases::WIDE_TEN;
 ghost use mathlib.Core.Path.{_≡_};
 ghost use Prim.Native.Nat.{_<_, _/_, _%_};
 ghost use lib.ListN.{take};
-ghost use Rattle.console.specs.Page.{page, putOne, putAll, glyphOf, figures, decimalOf, pairsOf, hexOf};
+ghost use Rattle.rules.specs.Listing.{figures, decimalOf};
+ghost use Rattle.console.specs.Page.{page, putOne, putAll, glyphOf, pairsOf, hexOf};
 
 const ZERO: u8 = b'0';
 

@@ -1,3 +1,4 @@
 pub mod Laying
 pub mod Planned
 pub mod Told
+pub mod Given

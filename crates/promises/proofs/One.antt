@@ -27,6 +27,7 @@ pub determined : Determined
 determined = record {
   read-table = λ bytes a b p q. table-exact a b (p ∙ sym q);
   plan = λ table out a b p q. paired a b (told-exact (a .0) (b .0) (p .0 ∙ sym (q .0))) (p .1 ∙ sym (q .1));
+  put-listing = λ table schedule out at a b p q. let e = p .0 ∙ sym (q .0) in let f = p .1 ∙ sym (q .1) in λ i. (e i .used, f i, e i .bytes);
   live-list = λ table signal list a b p q. paired a b (told-exact (a .0) (b .0) (p .0 ∙ sym (q .0))) (p .1 ∙ sym (q .1));
   lent = λ table signal room before a b p q. lived a b (told-exact (a .answer) (b .answer) (p .0 ∙ sym (q .0))) (p .1 ∙ sym (q .1));
   check-schedule = λ table schedule a b p q. told-exact a b (p ∙ sym q);

@@ -3,25 +3,23 @@ use Prim.Native.Nat.{ℕ}
 use mathlib.Core.Path.{_≡_, sym, ap, subst, _∙_}
 use mathlib.Core.Bool.{not}
 use mathlib.Core.List.{List}
-use lib.ListN.{take, drop}
-use lib.Seq.{take-at}
+use lib.ListN.{take}
 use borrow.Author.Tests.{eq-eqb, ne-eqb}
 use Rattle.rules.specs.Schedule.{Schedule, Passes}
 use Rattle.rules.specs.Plan as plans
-use Rattle.rules.specs.Bytes.{scheduleLength, bytesOf, scheduleIn}
+use Rattle.rules.specs.Bytes.{bytesOf, scheduleIn}
 use Rattle.rules.specs.Numbers.{Told, tell, told, allDone}
 use Rattle.rules.specs.Answers.{checkSays}
 use Rattle.rules.specs.Reading.{tableIn, readSays}
 use Rattle.rules.specs.Loading.{loadSays}
 use Rattle.rules.specs.declared.Answer.{Answer}
 use Rattle.theory.specs.First.{FirstBroken, BrokenCheck, checkTold, checkRules}
-use Rattle.theory.proofs.Laid.{bytes-length}
 use Rattle.theory.proofs.Loads.{both-accepted}
 use Rattle.theory.proofs.Proved.{bytes-checked-exactly, check-says-first, whatever-is-read-keeps}
 use Rattle.fields.proofs.Told.{told-exact}
 use Rattle.fields.proofs.Whens.{on, off}
+use Rattle.plan.proofs.Given.{done}
 use Rattle.promises.specs.Schedules.{SchedulesExactly, PlansPass}
-use Rattle.promises.proofs.Plans.{read-accepted, all-plans-rightly}
 
 -- ---- what the table and then the schedule say
 
@@ -62,9 +60,5 @@ schedules-exactly table schedule r g = record {
 
 pub plans-pass : PlansPass
 plans-pass table out r after g z q h =
-    let tab = tableIn table in
-    let P = all-plans-rightly table out r after g in
-    let (left, checked, telling) = P .written z in
-    let front : take (told r .place) after ≡ bytesOf tab (plans.plan tab)
-    = ap (λ (t : Told). take (t .place) after) telling ∙ ap (take (scheduleLength tab)) left ∙ take-at (bytesOf tab (plans.plan tab)) (drop (scheduleLength tab) out) (scheduleLength tab) (bytes-length tab (plans.plan tab)) in
-    told-exact q (Answer.Done 0) (h ∙ ap (loadSays table) front ∙ read-first table (bytesOf tab (plans.plan tab)) (read-accepted table out r after g z) ∙ checked)
+    let d = done table out r after g z in
+    told-exact q (Answer.Done 0) (h ∙ passing-done table (take (told r .place) after) (d .accepted) (plans.plan (tableIn table)) (d .passes) (d .front))

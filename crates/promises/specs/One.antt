@@ -18,6 +18,7 @@ use Rattle.reader.specs.declared.Reader.{Reader}
 use Rattle.reader.specs.Gives.{ReaderGives}
 use Rattle.sections.specs.Gives.{GridGives}
 use Rattle.plan.specs.Gives.{PlanGives}
+use Rattle.text.specs.Gives.{ListingGives}
 use Rattle.table.specs.declared.reading.TableRead.{TableRead}
 use Rattle.table.specs.Gives.{TableGives}
 use Rattle.lives.specs.declared.LiveValue.{LiveValue}
@@ -42,6 +43,8 @@ pub record Determined : Type 1 where
   pub read-table : (bytes : List ℕ) → One (λ (r : TableRead). TableGives bytes r)
   -- plan::plan
   pub plan : (table out : List ℕ) → One (λ (x : Answer × List ℕ). PlanGives table out (x .0) (x .1))
+  -- text::put_listing: where the page ends, what is left in the lent schedule and on the page
+  pub put-listing : (table schedule out : List ℕ) (at : ℕ) → One (λ (x : ℕ × List ℕ × List ℕ). ListingGives table schedule out at (x .0) (x .1) (x .2))
   -- lives::live_list
   pub live-list : (table : List ℕ) (signal : ℕ) (list : List LiveValue) → One (λ (x : Answer × List LiveValue). ListGives table signal list (x .0) (x .1))
   -- lives::lent

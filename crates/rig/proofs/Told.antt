@@ -3,8 +3,9 @@ use Prim.Native.Nat.{ℕ, _-_}
 use mathlib.Core.Path.{_≡_, sym, ap, _∙_}
 use mathlib.Core.List.{List, _∷_, _++_}
 use lib.ListN.{length, take, drop, length-drop}
+use Rattle.rules.specs.Listing.{decimalOf}
 use Rattle.console.specs.Ascii.{space}
-use Rattle.console.specs.Page.{Page, putOne, putAll, decimalOf}
+use Rattle.console.specs.Page.{Page, putOne, putAll}
 use Rattle.console.proofs.Turns.{put-append, to-end}
 
 -- a number, a space and a number are one text

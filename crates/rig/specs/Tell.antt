@@ -2,8 +2,8 @@
 use Prim.Native.Nat.{ℕ}
 use mathlib.Core.List.{List, [], _∷_, _++_}
 use Rattle.rules.specs.Numbers.{Told}
+use Rattle.rules.specs.Listing.{decimalOf}
 use Rattle.console.specs.Ascii.{space}
-use Rattle.console.specs.Page.{decimalOf}
 
 abbrev pub lineFeed : ℕ
 lineFeed = 10

@@ -1,2 +1,3 @@
-pub mod Grown
 pub mod Put
+pub mod Walked
+pub mod Listed

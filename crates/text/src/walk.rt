@@ -1,6 +1,5 @@
-// A walk along a schedule's records, with a line for each. It is safe on any bytes: where no whole record stands, it ends.
+// The record in front of the bytes, which go on to the schedule's end, put on the page as a line.
 use crate::lines::put_signal;
-use crate::lines::put_total;
 use crate::lines::put_use;
 use fields::marked;
 use fields::wide;
@@ -8,123 +7,72 @@ use rules::BF;
 use rules::BF_BYTES;
 use rules::COUNT_AT;
 use rules::ELEMENT_AT;
-use rules::EN;
 use rules::INSTANCE_AT;
 use rules::LOW_AT;
-use rules::RI;
 use rules::SIGNAL_AT;
 use rules::TASK_AT;
 use rules::USE_BYTES;
 use rules::WI;
-ghost use Prim.Native.Nat.{_<_, _≤_};
+ghost use mathlib.Core.Path.{_≡_};
+ghost use Prim.Native.Nat.{_≤_};
 ghost use lib.ListN.{length};
+ghost use Rattle.form.specs.Records.{bfBytes, useBytes};
+ghost use Rattle.text.specs.Walk.{signalIn, instanceIn, useIn, recordIn, Lists};
 
 const WRITE: [u8; 6] = *b"write ";
 
 const READ: [u8; 5] = *b"read ";
 
-// Where the next record starts, the sum of the counts so far, and how much of the page is in use.
-struct Walk {
-    at: usize,
-    sum: u64,
-    used: usize,
+// The bytes of the record, its count if it is a signal's, and how much of the page is in use after its line.
+pub struct Listed {
+    pub size: usize,
+    pub count: u64,
+    pub used: usize,
 }
 
-// Nothing more is listed.
-fn ended(schedule: &[u8], walk: Walk) -> Walk
-    requires { ⌜ walk .at < length (now schedule) ⌝ }
-    ensures { λ r. ⌜ (walk .at < r .at) × (walk .used ≤ r .used) ⌝ }
+fn list_signal(bytes: &[u8], out: &mut [u8], used: usize) -> Listed
+    requires { ⌜ bfBytes ≤ length (now bytes) ⌝ }
+    ensures { λ r. ⌜ Lists (signalIn (now (bytes .entry))) (now (out .entry)) used r (now (out .exit)) ⌝ }
 {
-    Walk {
-        at: schedule.len(),
-        sum: walk.sum,
-        used: walk.used,
-    }
-}
-
-fn list_signal(schedule: &[u8], out: &mut [u8], walk: Walk) -> Walk
-    requires { ⌜ walk .at < length (now schedule) ⌝ }
-    ensures { λ r. ⌜ (walk .at < r .at) × (walk .used ≤ r .used) ⌝ }
-{
-    let at = walk.at;
-    if schedule.len() - at < BF_BYTES {
-        return ended(schedule, walk);
-    }
-    let count = schedule[at + COUNT_AT];
-    let used = put_signal(out, walk.used, schedule[at + SIGNAL_AT], count);
-    // Only bytes that were never planned could have a sum that wraps around.
-    let sum = std::num::wrapping_add_u64(walk.sum, wide(count) as u64);
-    Walk {
-        at: at + BF_BYTES,
-        sum,
-        used,
+    let count = bytes[COUNT_AT];
+    let end = put_signal(out, used, bytes[SIGNAL_AT], count);
+    Listed {
+        size: BF_BYTES,
+        count: wide(count) as u64,
+        used: end,
     }
 }
 
-fn list_use(schedule: &[u8], out: &mut [u8], walk: Walk, name: &[u8]) -> Walk
-    requires { ⌜ walk .at < length (now schedule) ⌝ }
-    ensures { λ r. ⌜ (walk .at < r .at) × (walk .used ≤ r .used) ⌝ }
+fn instance_in(bytes: &[u8]) -> u64
+    requires { ⌜ useBytes ≤ length (now bytes) ⌝ }
+    ensures { λ r. ⌜ r ≡ instanceIn (now (bytes .entry)) ⌝ }
 {
-    let at = walk.at;
-    if schedule.len() - at < USE_BYTES {
-        return ended(schedule, walk);
-    }
-    let instance = wide(schedule[at + INSTANCE_AT]) * 256 + wide(schedule[at + LOW_AT]);
-    let used = put_use(
-        out,
-        walk.used,
-        name,
-        schedule[at + TASK_AT],
-        instance as u64,
-        schedule[at + ELEMENT_AT],
-    );
-    Walk {
-        at: at + USE_BYTES,
-        sum: walk.sum,
-        used,
+    (wide(bytes[INSTANCE_AT]) * 256 + wide(bytes[LOW_AT])) as u64
+}
+
+fn list_use(bytes: &[u8], out: &mut [u8], used: usize, name: &[u8]) -> Listed
+    requires { ⌜ useBytes ≤ length (now bytes) ⌝ }
+    ensures { λ r. ⌜ Lists (useIn (now (name .entry)) (now (bytes .entry))) (now (out .entry)) used r (now (out .exit)) ⌝ }
+{
+    let instance = instance_in(bytes);
+    let end = put_use(out, used, name, bytes[TASK_AT], instance, bytes[ELEMENT_AT]);
+    Listed {
+        size: USE_BYTES,
+        count: 0,
+        used: end,
     }
 }
 
-fn list_total(schedule: &[u8], out: &mut [u8], walk: Walk) -> Walk
-    requires { ⌜ walk .at < length (now schedule) ⌝ }
-    ensures { λ r. ⌜ (walk .at < r .at) × (walk .used ≤ r .used) ⌝ }
+// Before EN a record that is neither a signal's nor a writer's is a reader's.
+pub fn list_record(bytes: &[u8], out: &mut [u8], used: usize) -> Listed
+    requires { ⌜ recordIn (now bytes) .size ≤ length (now bytes) ⌝ }
+    ensures { λ r. ⌜ Lists (recordIn (now (bytes .entry))) (now (out .entry)) used r (now (out .exit)) ⌝ }
 {
-    let mut last = walk;
-    last.used = put_total(out, walk.used, walk.sum);
-    last.at = schedule.len();
-    last
-}
-
-fn list_record(schedule: &[u8], out: &mut [u8], walk: Walk) -> Walk
-    requires { ⌜ walk .at < length (now schedule) ⌝ }
-    ensures { λ r. ⌜ (walk .at < r .at) × (walk .used ≤ r .used) ⌝ }
-{
-    let at = walk.at;
-    if marked(schedule, at, BF) {
-        return list_signal(schedule, out, walk);
+    if marked(bytes, 0, BF) {
+        return list_signal(bytes, out, used);
     }
-    if marked(schedule, at, WI) {
-        return list_use(schedule, out, walk, &WRITE);
+    if marked(bytes, 0, WI) {
+        return list_use(bytes, out, used, &WRITE);
     }
-    if marked(schedule, at, RI) {
-        return list_use(schedule, out, walk, &READ);
-    }
-    if marked(schedule, at, EN) {
-        return list_total(schedule, out, walk);
-    }
-    ended(schedule, walk)
-}
-
-pub fn put_records(schedule: &[u8], out: &mut [u8], from: usize) -> usize
-    ensures { λ r. ⌜ from ≤ r ⌝ }
-{
-    let mut walk = Walk {
-        at: 0,
-        sum: 0,
-        used: from,
-    };
-    while walk.at < schedule.len() {
-        walk = list_record(schedule, out, walk);
-    }
-    walk.used
+    list_use(bytes, out, used, &READ)
 }

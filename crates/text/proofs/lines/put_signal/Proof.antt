@@ -1,15 +1,14 @@
 -- `put_signal` meets its contract. Assumes nothing.
 use borrow.Author.Needs.{needs}
-use Rattle.text.proofs.Put.{line-of-two}
+use Rattle.text.proofs.Put.{led}
 use Rattle.text.proofs.lines.put_signal.Statement.{statement}
 use Rattle.text.proofs.lines.put_signal.Tie as tie
 
 returns : tie.Need-returns
 returns c =
-    let at-put = c .before .before in
-    let at-put-named2 = at-put .before .before .before .before in
-    let at-put-named = at-put-named2 .before .before .before .before .before in
-    line-of-two _ _ _ _ _ (at-put-named .put-named .ensures) (at-put-named2 .put-named2 .ensures) (at-put .put .ensures)
+    let at-put-last = c .before .before in
+    let at-put-named = at-put-last .before .before .before .before .before in
+    led _ _ _ (at-put-named .put-named .ensures) (at-put-last .put-last .ensures)
 
 pub put-signal-spec : {M : Type 1} → statement M
 put-signal-spec =
@@ -18,7 +17,6 @@ put-signal-spec =
     (λ c. search needs)
     (λ c κs. search needs)
     (λ c. search needs)
-    (λ c κs. search needs)
     (λ c κs. search needs)
     (λ c. search needs)
     returns)
