@@ -39,6 +39,8 @@ pub fn run(mut input: impl BufRead, mut output: impl Write) -> io::Result<()> {
         }
         if let Some(answer) = console.answer(&line) {
             output.write_all(answer.as_bytes())?;
+            // Who asked may wait for it before he asks on.
+            output.flush()?;
         }
     }
 }

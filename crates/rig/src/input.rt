@@ -1,4 +1,4 @@
-// Input in large pieces, cut into lines; output in large pieces.
+// Input in large pieces, cut into lines; output in large pieces, none kept back while more input is waited for.
 use crate::bench::Bench;
 use crate::bench::OUTPUT;
 use crate::dispatch::answer;
@@ -71,6 +71,7 @@ fn take_piece(
     after
 }
 
+// Who asked may wait for the answer before he asks on, so what is there is written before the wait for more.
 fn read_some(
     piece: &mut [u8],
     line: &mut [u8],
@@ -79,14 +80,16 @@ fn read_some(
     out: &mut [u8],
     bench: Bench,
 ) -> Bench {
+    let mut told = bench;
+    flush(out, bench.waiting);
+    told.waiting = 0;
     let got = libc::read(STDIN_FILENO, piece);
     let n = io::count(got, piece);
     if n == 0 {
-        let mut last = bench;
-        last.ended = true;
-        return last;
+        told.ended = true;
+        return told;
     }
-    take_piece(&piece[..n], line, kept, lent, out, bench)
+    take_piece(&piece[..n], line, kept, lent, out, told)
 }
 
 pub(crate) fn run(
