@@ -1,5 +1,5 @@
 -- The demands are met: specs/Demands.antt, proved.
-use Rattle.simulation.proofs.Fit.{unfit-exact, refused-leaves}
+use Rattle.simulation.proofs.Fit.{fit-exactly, unfit-exact, leads-inside, refused-leaves}
 use Rattle.simulation.proofs.Started.{stays-fit}
 use Rattle.promises.specs.Demands.{Demands}
 use Rattle.promises.proofs.Tables.{tables-exactly, tables-first}
@@ -17,6 +17,8 @@ demands-met = record {
     load = λ m table schedule r g. loads-exactly m table schedule r g .refused;
     calls = refused-leaves;
     unfit = unfit-exact;
+    fitness = fit-exactly;
+    leads-inside = leads-inside;
     stays-fit = stays-fit;
   };
   second = record {

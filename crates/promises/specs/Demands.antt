@@ -4,6 +4,7 @@
 -- the function gave. proofs/Demands.antt proves them all. Assumes nothing.
 use Prim.Native.Nat.{ℕ}
 use mathlib.Core.Path.{_≡_}
+use mathlib.Core.Bool.{true}
 use mathlib.Core.List.{List}
 use Rattle.rules.specs.Numbers.{told, allDone}
 use Rattle.rules.specs.declared.Answer.{Answer}
@@ -12,8 +13,9 @@ use Rattle.lives.specs.declared.LiveValue.{LiveValue}
 use Rattle.lives.specs.Gives.{ListGives}
 use Rattle.machine.specs.declared.Machine.{Machine}
 use Rattle.machine.specs.declared.Stepped.{Stepped}
+use Rattle.machine.specs.Calls.{fit}
 use Rattle.machine.specs.Load.{Loads}
-use Rattle.simulation.specs.Fit.{UnfitExact, StaysFit, RefusedLeaves}
+use Rattle.simulation.specs.Fit.{FitExactly, UnfitExact, LeadsInside, StaysFit, RefusedLeaves}
 use Rattle.promises.specs.Tables.{TablesExactly, TablesFirst}
 use Rattle.promises.specs.Plans.{AllPlansRightly}
 use Rattle.promises.specs.Lists.{AllListsRightly}
@@ -40,6 +42,9 @@ pub record Demand1 : Type 0 where
   pub calls : (m : Machine) → RefusedLeaves m
   -- 25 is given exactly on states that are not fit; no call leads from a fit state to one that is not, and an accepted loading leads from any state to a fit one.
   pub unfit : (m : Machine) → UnfitExact m
+  -- A state is fit exactly when document 01's sentence holds of it, and nothing in a fit state leads outside it.
+  pub fitness : (m : Machine) → FitExactly m
+  pub leads-inside : (m : Machine) → fit m ≡ true → LeadsInside m
   pub stays-fit : (m : Machine) → StaysFit m
 
 -- 2. A table is accepted exactly when the rules hold; a schedule exactly when it has the form and bounds, each reader is sent to the value LET gives it

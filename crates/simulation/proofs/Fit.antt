@@ -1,27 +1,28 @@
 -- Fit and unfit states: 25 exactly on the unfit ones, a fit state stays fit, nothing in it leads outside, a refusal leaves the state. Assumes nothing.
-use Prim.Native.Nat.{ℕ, _+_, _<_}
+use Prim.Native.Nat.{ℕ, _+_, _-_, _<_}
 use mathlib.Core.Path.{_≡_, refl}
 use mathlib.Core.Bool.{true, false, _&&_}
 use mathlib.Core.List.{List}
 use native.Mathlib.Omega.{arith}
-use lib.Dec.{leb, ltb}
+use lib.Dec.{leb, ltb, eqb}
 use lib.ListN.{replicate}
-use borrow.Author.Tests.{leb-true, ltb-true}
+use mathlib.Core.Logic.{_⊎_, inl, inr}
+use borrow.Author.Tests.{leb-true, le-leb, ltb-true, ltb-false, lt-ltb, eqb-true, eq-eqb}
 use Rattle.rules.specs.Words.{every, when}
-use Rattle.rules.specs.Table.{mostTasks, mostSignals, mostUses, words}
+use Rattle.rules.specs.Table.{mostTasks, mostSignals, mostUses, words, longest}
 use Rattle.rules.specs.declared.Answer.{Answer}
-use Rattle.theory.proofs.Tests.{split, both}
-use Rattle.theory.proofs.Check.{every-at}
-use Rattle.state.specs.Parts.{at, cell, loaded, counts, reads, writes, carried, held, numbers}
-use Rattle.state.specs.Fitness.{accessFits, inUses, taskFits, tasksFit}
+use Rattle.theory.proofs.Tests.{split, both, and-is, or-cases, or-left, or-right}
+use Rattle.theory.proofs.Check.{every-at, every-is}
+use Rattle.state.specs.Parts.{at, none, cell, loaded, hyper, counts, reads, writes, uses, carried, held, tick, numbers, positions}
+use Rattle.state.specs.Fitness.{accessFits, inUses, taskFits, tasksFit, positionsFit}
 use Rattle.state.specs.Fitness as fitness
 use Rattle.state.specs.Rows.{useOf, published, placeOf}
 use Rattle.state.specs.declared.Place.{Place}
 use Rattle.state.proofs.Sets.{alike}
-use Rattle.state.proofs.Frames.{fit-has, position-in, use-in, published-fit, advanced-fit}
+use Rattle.state.proofs.Frames.{fit-has, fit-is, position-in, use-in, published-fit, advanced-fit}
 use Rattle.machine.specs.declared.Machine.{Machine}
 use Rattle.machine.specs.Calls.{fit, unloaded, stepIn, readAt, readIn, writtenAt, writeIn, stepOf, writeOf}
-use Rattle.simulation.specs.Fit.{UnfitExact, UsesInside, LeadsInside, RefusedLeaves}
+use Rattle.simulation.specs.Fit.{AccessInside, IsFit, FitExactly, UnfitExact, UsesInside, LeadsInside, RefusedLeaves}
 
 -- what is all zero is not marked as loaded
 zeros-unfit : (n : List ℕ) → at n loaded ≡ 0 → fitness.fit n ≡ false
@@ -60,6 +61,61 @@ leads-inside m f =
       elements = λ s h. ltb-true (at n (carried + s)) words (position-in n f (carried + s) (omega arith) (omega arith));
       published = λ s h. ltb-true (at n (held + s)) words (position-in n f (held + s) (omega arith) (omega arith));
     }
+
+-- ---- fit, in document 01's words
+
+access-inside : (count first : ℕ) → accessFits count first ≡ true → AccessInside count first
+access-inside count first e = go (or-cases (eqb first none) (inUses count first) e)
+  where
+    go : (eqb first none ≡ true) ⊎ (inUses count first ≡ true) → AccessInside count first
+    go (inl a) = inl (eqb-true first none a)
+    go (inr b) = let d = both (ltb first mostUses) (leb (first + count) mostUses) b in inr (ltb-true first mostUses (d .0), leb-true (first + count) mostUses (d .1))
+
+inside-access : (count first : ℕ) → AccessInside count first → accessFits count first ≡ true
+inside-access count first (inl e) = or-left (eqb first none) (inUses count first) (eq-eqb first none e)
+inside-access count first (inr (a, b)) = or-right (eqb first none) (inUses count first) (and-is (lt-ltb first mostUses a) (le-leb (first + count) mostUses b))
+
+module _ (n : List ℕ) where
+  is-fit : fitness.fit n ≡ true → IsFit n
+  unfolding tasksFit taskFits
+  is-fit f =
+      let F = fit-has n f in
+      let (a, below) = both (eqb (at n loaded) 1 && leb 1 (at n hyper) && leb (at n hyper) longest) _ (F .runs) in
+      let (b, short) = both (eqb (at n loaded) 1 && leb 1 (at n hyper)) _ a in
+      let (marked, some) = both (eqb (at n loaded) 1) _ b in
+      record {
+        marked = eqb-true (at n loaded) 1 marked;
+        lasting = (leb-true 1 (at n hyper) some, leb-true (at n hyper) longest short);
+        within = ltb-true (at n tick) (at n hyper) below;
+        instances = λ t h. leb-true (at n (counts + t)) mostUses (both (leb (at n (counts + t)) mostUses) _ (every-at mostTasks (taskFits n) (F .tasks) t h) .0);
+        reading = λ t s h a. access-inside (at n (counts + t)) (at n (cell reads t s)) (accesses n f t s h a .0);
+        writing = λ t s h a. access-inside (at n (counts + t)) (at n (cell writes t s)) (accesses n f t s h a .1);
+        used = λ k h. ltb-true (at n (uses + k)) words (position-in n f (uses + k) (omega arith) (omega arith));
+        elements = λ s h. ltb-true (at n (carried + s)) words (position-in n f (carried + s) (omega arith) (omega arith));
+        published = λ s h. ltb-true (at n (held + s)) words (position-in n f (held + s) (omega arith) (omega arith));
+      }
+
+  fit-if : IsFit n → fitness.fit n ≡ true
+  unfolding tasksFit taskFits positionsFit
+  fit-if I =
+      fit-is n (record {
+        runs = and-is (and-is (and-is (eq-eqb (at n loaded) 1 (I .marked)) (le-leb 1 (at n hyper) (I .lasting .0))) (le-leb (at n hyper) longest (I .lasting .1))) (lt-ltb (at n tick) (at n hyper) (I .within));
+        tasks = every-is mostTasks (taskFits n) (λ t h. and-is (le-leb (at n (counts + t)) mostUses (I .instances t h)) (every-is mostSignals _ (λ s a.
+            and-is (inside-access (at n (counts + t)) (at n (cell reads t s)) (I .reading t s h a)) (inside-access (at n (counts + t)) (at n (cell writes t s)) (I .writing t s h a)))));
+        positions = every-is positions _ (λ k h. lt-ltb (at n (uses + k)) words (position k h));
+      })
+    where
+      position : (k : ℕ) → k < positions → at n (uses + k) < words
+      position k h =
+          split (ltb k mostUses)
+          (λ e. I .used k (ltb-true k mostUses e))
+          (λ e. let a = ltb-false k mostUses e in split (ltb k (mostUses + mostSignals))
+          (λ d. let z : uses + k ≡ carried + (k - mostUses) = omega arith in rw z (I .elements (k - mostUses) (omega (arith, ltb-true k (mostUses + mostSignals) d))))
+          (λ d. let b = ltb-false k (mostUses + mostSignals) d in
+          let z : uses + k ≡ held + (k - (mostUses + mostSignals)) = omega arith in rw z (I .published (k - (mostUses + mostSignals)) (omega arith))))
+
+pub fit-exactly : (m : Machine) → FitExactly m
+fit-exactly m = (is-fit (m .numbers), fit-if (m .numbers))
 
 module _ (m : Machine) where
   abbrev n : List ℕ

@@ -11,9 +11,9 @@ ghost use Prim.Native.Nat.{ℕ, _+_, _<_, _≤_};
 ghost use lib.Dec.{leb, eqb};
 ghost use Rattle.rules.specs.Table.{mostTasks, mostSignals, mostUses};
 ghost use Rattle.rules.specs.Words.{upTo};
-ghost use Rattle.state.specs.Parts.{at, none, counts, lastKind};
+ghost use Rattle.state.specs.Parts.{at, none, tick, periods, starts, ends, counts, lastKind};
 ghost use Rattle.state.specs.Fitness.{inBlock, inUses, taskFits, tasksFit, positionsFit, running, fit};
-ghost use Rattle.state.specs.Rows.{phaseOf, instanceIf, openingOf, closingOf, insideOf, load, save, lacks, useOf, publishOne, fillOne, carryOne, releaseOne, atInstance, published, openings, copies, released, advanced, placeOf};
+ghost use Rattle.state.specs.Rows.{phaseOf, instanceIf, phaseNow, nowIf, openingOf, closingOf, insideOf, load, save, lacks, useOf, publishOne, fillOne, carryOne, releaseOne, atInstance, published, openings, copies, released, advanced, placeOf};
 
 // One cell for each task and signal, a row for each task.
 pub const CELLS: usize = MOST_TASKS * MOST_SIGNALS;
@@ -160,15 +160,37 @@ pub fn is_fit(numbers: &[u16; NUMBERS]) -> bool
     )
 }
 
-// A task's instance at a tick.
+// A task's window, and how many instances it has; a task that the table does not have has none.
 
-// A task that the table does not have has none.
+fn period(numbers: &[u16; NUMBERS], task: usize) -> u16
+    requires { ⌜ task < mostTasks ⌝ }
+    ensures { λ r. ⌜ r ≡ at (now (numbers .entry)) (periods + task) ⌝ }
+{
+    numbers[PERIODS + task]
+}
+
+fn start(numbers: &[u16; NUMBERS], task: usize) -> u16
+    requires { ⌜ task < mostTasks ⌝ }
+    ensures { λ r. ⌜ r ≡ at (now (numbers .entry)) (starts + task) ⌝ }
+{
+    numbers[STARTS + task]
+}
+
+fn end(numbers: &[u16; NUMBERS], task: usize) -> u16
+    requires { ⌜ task < mostTasks ⌝ }
+    ensures { λ r. ⌜ r ≡ at (now (numbers .entry)) (ends + task) ⌝ }
+{
+    numbers[ENDS + task]
+}
+
 pub fn instances(numbers: &[u16; NUMBERS], task: usize) -> u16
     requires { ⌜ task < mostTasks ⌝ }
     ensures { λ r. ⌜ r ≡ at (now (numbers .entry)) (counts + task) ⌝ }
 {
     numbers[COUNTS + task]
 }
+
+// A task's instance at the tick.
 
 fn phase(period: u16, tick: u16) -> u16
     ensures { λ r. ⌜ (r ≡ phaseOf period tick) × (r < 65535) ⌝ }
@@ -193,35 +215,50 @@ fn instance_if(test: bool, period: u16, count: u16, tick: u16) -> Instance
     Instance::At(i)
 }
 
+// How far the task is into its period now.
+fn phase_now(numbers: &[u16; NUMBERS], task: usize) -> u16
+    requires { ⌜ task < mostTasks ⌝ }
+    ensures { λ r. ⌜ (r ≡ phaseNow (now (numbers .entry)) task) × (r < 65535) ⌝ }
+{
+    phase(period(numbers, task), numbers[TICK])
+}
+
+// Its instance now, if the test holds.
+fn now_if(numbers: &[u16; NUMBERS], task: usize, test: bool) -> Instance
+    requires { ⌜ task < mostTasks ⌝ }
+    ensures { λ r. ⌜ r ≡ nowIf (now (numbers .entry)) task test ⌝ }
+{
+    instance_if(
+        test,
+        period(numbers, task),
+        instances(numbers, task),
+        numbers[TICK],
+    )
+}
+
 fn opening(numbers: &[u16; NUMBERS], task: usize) -> Instance
     requires { ⌜ task < mostTasks ⌝ }
     ensures { λ r. ⌜ r ≡ openingOf (now (numbers .entry)) task ⌝ }
 {
-    let period = numbers[PERIODS + task];
-    let tick = numbers[TICK];
-    let test = phase(period, tick) == numbers[STARTS + task];
-    instance_if(test, period, numbers[COUNTS + task], tick)
+    let test = phase_now(numbers, task) == start(numbers, task);
+    now_if(numbers, task, test)
 }
 
 fn closing(numbers: &[u16; NUMBERS], task: usize) -> Instance
     requires { ⌜ task < mostTasks ⌝ }
     ensures { λ r. ⌜ r ≡ closingOf (now (numbers .entry)) task ⌝ }
 {
-    let period = numbers[PERIODS + task];
-    let tick = numbers[TICK];
-    let test = phase(period, tick) + 1 == numbers[ENDS + task];
-    instance_if(test, period, numbers[COUNTS + task], tick)
+    let test = phase_now(numbers, task) + 1 == end(numbers, task);
+    now_if(numbers, task, test)
 }
 
 pub fn inside(numbers: &[u16; NUMBERS], task: usize) -> Instance
     requires { ⌜ task < mostTasks ⌝ }
     ensures { λ r. ⌜ r ≡ insideOf (now (numbers .entry)) task ⌝ }
 {
-    let period = numbers[PERIODS + task];
-    let tick = numbers[TICK];
-    let p = phase(period, tick);
-    let test = both(numbers[STARTS + task] <= p, p < numbers[ENDS + task]);
-    instance_if(test, period, numbers[COUNTS + task], tick)
+    let p = phase_now(numbers, task);
+    let test = both(start(numbers, task) <= p, p < end(numbers, task));
+    now_if(numbers, task, test)
 }
 
 // A word of the store. A fit state keeps no position past its end; there nothing is stored, and 0 is found.

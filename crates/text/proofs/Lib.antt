@@ -1,3 +1,5 @@
 pub mod Put
+pub mod Weights
 pub mod Walked
 pub mod Listed
+pub mod Whole

@@ -1,5 +1,5 @@
 -- The walk along a schedule's bytes meets its records one after the other. Assumes nothing.
-use Prim.Native.Nat.{ℕ, zero, suc, _+_, _-_, _≤_, _<_}
+use Prim.Native.Nat.{ℕ, _+_, _-_, _≤_, _<_}
 use mathlib.Core.Bool.{Bool, true, false, _&&_}
 use mathlib.Core.List.{List, [], _∷_, _++_, map}
 use mathlib.Core.Path.{_≡_, refl, sym, ap, subst, _∙_}
@@ -9,14 +9,12 @@ use lib.Dec.{eqb}
 use lib.ListN.{length, take, drop, length-drop}
 use lib.Seq.{drop-drop}
 use borrow.Author.Tests.{le-leb}
-use Rattle.rules.specs.Words.{total, gather}
 use Rattle.rules.specs.Windows.{Table, hyper}
 use Rattle.rules.specs.Schedule.{Schedule, base}
 use Rattle.rules.specs.Plan.{plan}
 use Rattle.rules.specs.Fields.{BF, WI, byteAt, holdsAt, markAt}
-use Rattle.rules.specs.Bytes.{Part, bf, wi, ri, size, writerParts, readerParts, partsOf, parts, recordsOf, bytesOf}
+use Rattle.rules.specs.Bytes.{Part, bf, wi, ri, size, parts, recordsOf, bytesOf}
 use Rattle.rules.specs.Listing.{ascii, useLine, totalLine, hyperLine, recordLine, tableLines, textOf}
-use Rattle.theory.proofs.Sums.{total-none}
 use Rattle.fields.proofs.Tested.{said}
 use Rattle.fields.proofs.Whens.{on, off}
 use Rattle.console.specs.Page.{Page, page, putAll}
@@ -24,6 +22,7 @@ use Rattle.console.proofs.Turns.{to-end}
 use Rattle.text.specs.declared.walk.Listed.{Listed}
 use Rattle.text.specs.Walk.{Found, signalIn, useIn, recordIn, Lists}
 use Rattle.text.proofs.Put.{put-lines}
+use Rattle.text.proofs.Weights.{weight, weights, weights-all}
 
 -- ---- the record in front, by its mark
 
@@ -43,45 +42,13 @@ module _ (bytes : List ℕ) {b : Bool} (e : b ≡ markAt bytes 0 BF) where
 
 -- ---- the records of a schedule
 
-module _ (E : Schedule) where
-  -- the count of a signal's record
-  abbrev pub countIn : Part → ℕ
-  countIn (bf s) = E .count s
-  countIn (wi s k i) = 0
-  countIn (ri s k i) = 0
-
-  unfoldable pub countsIn : List Part → ℕ
-  countsIn [] = 0
-  countsIn (x ∷ xs) = countIn x + countsIn xs
-
-  counts-append : (xs ys : List Part) → countsIn (xs ++ ys) ≡ countsIn xs + countsIn ys
-  unfolding countsIn
-  counts-append [] ys = omega arith
-  counts-append (x ∷ xs) ys = omega (arith, counts-append xs ys)
-
-  counts-gather : (f : ℕ → List Part) (g : ℕ → ℕ) (n : ℕ) → ((k : ℕ) → countsIn (f k) ≡ g k) → countsIn (gather n f) ≡ total g n
-  unfolding gather total countsIn
-  counts-gather f g zero e = refl
-  counts-gather f g (suc n) e = omega (arith, counts-append (gather n f) (f n), counts-gather f g n e, e n)
-
-  no-counts : (f : ℕ → List Part) (n : ℕ) → ((k : ℕ) → countsIn (f k) ≡ 0) → countsIn (gather n f) ≡ 0
-  no-counts f n e = counts-gather f (λ k. 0) n e ∙ total-none n
-
-  -- all of them make the total
-  pub counts-all : (tab : Table) → countsIn (parts tab) ≡ base E (tab .signals)
-  unfolding parts partsOf base countsIn
-  counts-all tab = counts-gather (partsOf tab) (E .count) (tab .signals) (λ s.
-      let w : countsIn (writerParts tab s) ≡ 0 = no-counts _ (tab .tasks) (λ k. no-counts (λ i. wi s k i ∷ []) _ (λ i. refl)) in
-      let r : countsIn (readerParts tab s) ≡ 0 = no-counts _ (tab .tasks) (λ k. no-counts (λ i. ri s k i ∷ []) _ (λ i. refl)) in
-      omega (arith, counts-append (writerParts tab s) (readerParts tab s)))
-
 mark-is : (a b : ℕ) (rest mark : List ℕ) → markAt (a ∷ b ∷ rest) 0 mark ≡ (eqb a (byteAt mark 0) && eqb b (byteAt mark 1))
 unfolding markAt holdsAt
 mark-is a b rest mark = rw (le-leb 2 (length (a ∷ b ∷ rest)) (omega arith))
 
 module _ (tab : Table) (E : Schedule) where
   abbrev foundOf : Part → Found
-  foundOf x = record { line = recordLine E x; size = size x; count = countIn E x }
+  foundOf x = record { line = recordLine E x; size = size x; count = weight (E .count) 0 x }
 
   abbrev useOf : List ℕ → ℕ → ℕ → ℕ → Found
   useOf name k i e = record { line = useLine name k i e; size = 7; count = 0 }
@@ -125,7 +92,7 @@ module _ (tab : Table) (schedule : List ℕ) (whole : Page) where
   -- these records stand from a place on, and their lines make the page whole
   pub record Left (left : List Part) (out : List ℕ) (used counted at : ℕ) : Type 0 where
     pub stands : drop at schedule ≡ recordsOf tab E left
-    pub counts : counted + countsIn E left ≡ base E (tab .signals)
+    pub counts : counted + weights (E .count) 0 left ≡ base E (tab .signals)
     pub text : putAll (textOf (linesFrom tab left)) (page out used) ≡ whole
 
   -- the record there, and what is left after it
@@ -138,7 +105,7 @@ module _ (tab : Table) (schedule : List ℕ) (whole : Page) where
 
   module _ (out : List ℕ) (used counted at : ℕ) where
     turn-at : (left : List Part) → Left left out used counted at → at + 2 < length schedule → Turn out used counted at (recordIn (drop at schedule))
-    unfolding recordsOf countsIn
+    unfolding recordsOf weights
     turn-at [] L h = absurd (omega (arith, length-drop at schedule, ap length (L .stands)))
     turn-at (x ∷ xs) L h = subst (Turn out used counted at) (sym (ap recordIn (L .stands) ∙ found tab E x xs)) (record {
       within = omega (arith, length-drop at schedule, ap length (L .stands), long tab E x xs);
@@ -153,7 +120,7 @@ module _ (tab : Table) (schedule : List ℕ) (whole : Page) where
     })
 
     end-at : (left : List Part) → Left left out used counted at → length schedule ≤ at + 2 → putAll (textOf (totalLine counted ∷ [])) (page out used) ≡ whole
-    unfolding countsIn
+    unfolding weights
     end-at [] L h = let q : counted ≡ base E (tab .signals) = omega (arith, L .counts) in ap (λ (n : ℕ). putAll (textOf (totalLine n ∷ [])) (page out used)) q ∙ L .text
     end-at (x ∷ xs) L h = absurd (omega (arith, length-drop at schedule, ap length (L .stands), long tab E x xs, least tab E xs))
 
@@ -178,5 +145,5 @@ part-length schedule at = ap length (to-end schedule at) ∙ length-drop at sche
 
 -- at the start all records are left
 pub start : (tab : Table) (schedule out : List ℕ) (used : ℕ) → schedule ≡ bytesOf tab (plan tab) → Left tab schedule (putAll (textOf (linesFrom tab (parts tab))) (page out used)) (parts tab) out used 0 0
-unfolding bytesOf
-start tab schedule out used e = record { stands = e; counts = omega (arith, counts-all (plan tab) tab); text = refl }
+unfolding bytesOf base
+start tab schedule out used e = record { stands = e; counts = omega (arith, weights-all (plan tab .count) 0 tab); text = refl }

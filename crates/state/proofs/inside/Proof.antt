@@ -2,7 +2,6 @@
 use borrow.Author.Needs.{needs}
 use mathlib.Core.Path.{_∙_}
 use Rattle.state.specs.Rows.{insideOf}
-use Rattle.theory.proofs.Tests.{both}
 use Rattle.state.proofs.inside.Statement.{statement}
 use Rattle.state.proofs.inside.Tie as tie
 
@@ -11,20 +10,9 @@ unfolding insideOf
 inside-spec =
     tie.close
     (tie.spec
-    (λ c. search needs)
-    (λ c. search needs)
-    (λ c. search needs)
-    (λ c. search needs)
     (λ c κs. search needs)
-    (λ c. search needs)
-    (λ c. search needs)
-    (λ c. search needs)
-    (λ c. search needs)
-    (λ c. search needs)
-    (λ c. search needs)
     (λ c κs. search needs)
-    (λ c. search needs)
-    (λ c. search needs)
-    (λ c. search needs)
     (λ c κs. search needs)
-    (λ c. c .instance-if .ensures ∙ rw (c .before .before .both .ensures, c .before .before .before .before .before .phase .ensures .0)))
+    (λ c κs. search needs)
+    (λ c κs. search needs)
+    (λ c. c .now-if .ensures ∙ rw (c .before .both .ensures, c .before .before .end .ensures, c .before .before .before .start .ensures, c .before .before .before .before .phase-now .ensures .0)))

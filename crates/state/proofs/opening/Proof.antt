@@ -10,16 +10,7 @@ unfolding openingOf
 opening-spec =
     tie.close
     (tie.spec
-    (λ c. search needs)
-    (λ c. search needs)
-    (λ c. search needs)
-    (λ c. search needs)
     (λ c κs. search needs)
-    (λ c. search needs)
-    (λ c. search needs)
-    (λ c. search needs)
-    (λ c. search needs)
-    (λ c. search needs)
-    (λ c. search needs)
     (λ c κs. search needs)
-    (λ c. c .instance-if .ensures ∙ rw (c .before .before .before .phase .ensures .0)))
+    (λ c κs. search needs)
+    (λ c. c .now-if .ensures ∙ rw (c .before .start .ensures, c .before .before .phase-now .ensures .0)))
