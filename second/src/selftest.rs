@@ -1,7 +1,8 @@
-//! The figures of document 01, and random tables held against second views of the same words.
+//! The figures of document 01, random tables held against second views of the same words, and what the scripts must hold.
 
 mod figures;
 mod refusals;
+mod scripts;
 
 use crate::check::check;
 use crate::hex::to_hex;
@@ -45,6 +46,7 @@ pub fn selftest() -> bool {
     let mut tally = Tally::default();
     figures::figures(&mut tally);
     refusals::refusals(&mut tally);
+    scripts::scripts(&mut tally);
     for seed in 0..TABLES {
         random_table(&mut tally, seed);
     }

@@ -3,12 +3,21 @@
 use crate::console::Console;
 use crate::corpus::{corpus, NAMES};
 use crate::selftest::Tally;
-use std::collections::BTreeMap;
+use std::collections::{BTreeMap, BTreeSet};
 
 /// Command and number of its answer, with how often; `bad line` counts under no command.
 type Counts = BTreeMap<(String, u32), u64>;
 
 const BAD_LINE: u32 = u32::MAX;
+
+pub const COMMANDS: [&str; 9] = [
+    "table", "plan", "list", "live", "check", "load", "step", "read", "write",
+];
+
+/// The commands of a script that are answered; the empty one stands for a bad line.
+pub fn answered(script: &[u8]) -> BTreeSet<String> {
+    counts(script).into_keys().map(|key| key.0).collect()
+}
 
 pub fn corpus_count(name: &str) -> Option<String> {
     let mut text = String::new();
