@@ -41,6 +41,16 @@ fn sample() -> Draft {
         .writes(2, 1)
 }
 
+/// `signals` signals, of which signal 1 is written and read, so that counts can sum past 256.
+fn many_signals(signals: usize) -> Draft {
+    Draft::default()
+        .task(0, 4, 10)
+        .task(0, 5, 5)
+        .signals(signals)
+        .writes(0, 1)
+        .reads(1, 1)
+}
+
 fn changed(script: &mut Script, word: &str, bytes: &[u8], place: usize, value: u8) {
     if bytes[place] != value {
         let mut bytes = bytes.to_vec();

@@ -74,6 +74,10 @@ impl Draft {
         })
     }
 
+    pub fn shortest_period(&self) -> u32 {
+        self.tasks.iter().map(|task| task[0]).min().unwrap_or(0)
+    }
+
     /// How often the accesses of one task are used.
     pub fn instances(&self, task: u8) -> usize {
         (self.hyper() / self.tasks[task as usize][0] as u64) as usize

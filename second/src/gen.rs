@@ -3,7 +3,8 @@
 use crate::draft;
 use crate::random::{self, table_bytes, Limits, ANY, MEDIUM, SMALL};
 use crate::rng::Rng;
-use crate::script::Script;
+use crate::schedule::schedule_bytes;
+use crate::script::{planned, Script};
 
 pub const KINDS: [&str; 6] = ["tables", "plans", "lives", "checks", "machines", "mixed"];
 
@@ -13,6 +14,11 @@ pub fn generate(seed: u64, lines: usize, kind: &str) -> Option<Vec<u8>> {
     // The kind goes into the seed, so that kinds do not share their tables.
     let mut rng = Rng::new(Rng::new(seed).next() ^ index as u64);
     let mut script = Script::default();
+    for part in 0..5 {
+        if index == part || index == 5 {
+            never_missing(&mut script, &mut rng, part);
+        }
+    }
     while script.lines < lines {
         if rng.one_in(12) {
             noise(&mut script, &mut rng);
@@ -21,6 +27,31 @@ pub fn generate(seed: u64, lines: usize, kind: &str) -> Option<Vec<u8>> {
         block(&mut script, &mut rng, kind);
     }
     Some(script.text)
+}
+
+/// What no script of the kind goes without, however the dice fall: 20, instances from 256 on, H above 2^32.
+fn never_missing(script: &mut Script, rng: &mut Rng, kind: usize) {
+    let late = random::many_instances(rng, 400);
+    let vast = random::vast(rng).bytes();
+    match kind {
+        0 => table_lines(script, rng, &vast),
+        1 => {
+            script.plans(rng, &late.bytes(), 29_000);
+            script.line("list");
+        }
+        2 => script.lives(rng, &late.bytes()),
+        3 => {
+            script.checks(rng, &late.bytes(), 5);
+            let plan = planned(&late.bytes()).expect("planned");
+            script.bytes("check", &schedule_bytes(&plan));
+            script.checks(rng, &vast, 1);
+        }
+        _ => {
+            let draft = random::draft(rng, SMALL);
+            script.overfull_loads(rng, draft);
+            script.late_calls(rng, &late);
+        }
+    }
 }
 
 fn noise(script: &mut Script, rng: &mut Rng) {
@@ -53,6 +84,10 @@ fn block(script: &mut Script, rng: &mut Rng, kind: usize) {
         3 => {
             let lines = 5 + rng.below(25);
             script.checks(rng, &bytes, lines);
+        }
+        4 if rng.one_in(12) => {
+            let draft = random::draft(rng, limits);
+            script.overfull_loads(rng, draft);
         }
         _ => {
             let calls = 20 + rng.below(100);

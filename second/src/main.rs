@@ -20,6 +20,7 @@ mod selftest;
 mod table;
 mod tally;
 mod vary;
+mod watch;
 
 use std::io::{self, BufWriter, Read, Write};
 use std::process::ExitCode;

@@ -154,6 +154,13 @@ pub fn word(rng: &mut Rng) -> u32 {
 }
 
 fn add_accesses(rng: &mut Rng, draft: &mut Draft, limits: Limits, rare: &[usize]) {
+    add_accesses_of(rng, draft, rare);
+    while draft.uses() > limits.uses || draft.accesses.len() > 512 {
+        draft.accesses.remove(rng.below(draft.accesses.len()));
+    }
+}
+
+fn add_accesses_of(rng: &mut Rng, draft: &mut Draft, rare: &[usize]) {
     let (reads, writes) = (rng.pick(rare), rng.pick(rare));
     for task in 0..draft.tasks.len() as u8 {
         for signal in 0..draft.defaults.len() as u8 {
@@ -163,9 +170,6 @@ fn add_accesses(rng: &mut Rng, draft: &mut Draft, limits: Limits, rare: &[usize]
                 }
             }
         }
-    }
-    while draft.uses() > limits.uses || draft.accesses.len() > 512 {
-        draft.accesses.remove(rng.below(draft.accesses.len()));
     }
 }
 
@@ -317,6 +321,82 @@ fn coprime(rng: &mut Rng, mut draft: Draft) -> Draft {
     draft.tasks.drain(..last.saturating_sub(16));
     draft.accesses.clear();
     draft
+}
+
+/// H above 2^32 whose low 32 bits alone would pass, so that arithmetic that wraps is seen.
+pub const WRAPPING: [[u32; 3]; 24] = [
+    [6_983, 921, 7_346],
+    [9_932, 8_422, 9_345],
+    [1_373, 2_281, 6_857],
+    [4_443, 6_640, 9_463],
+    [4_899, 3_423, 8_452],
+    [7_823, 5_529, 9_334],
+    [9_124, 6_298, 5_531],
+    [625, 8_598, 9_591],
+    [5_333, 2_728, 9_447],
+    [8_069, 7_056, 9_505],
+    [1_889, 8_849, 4_368],
+    [3_178, 6_298, 9_871],
+    [5_196, 7_703, 4_185],
+    [5_648, 8_088, 9_026],
+    [1_441, 8_167, 7_299],
+    [1_387, 2_170, 9_989],
+    [3_956, 7_018, 1_547],
+    [275, 8_414, 9_281],
+    [6_117, 4_505, 1_091],
+    [8_597, 8_396, 9_223],
+    [3_002, 2_647, 1_081],
+    [1_535, 8_405, 9_987],
+    [3_880, 8_985, 4_928],
+    [2_995, 5_761, 9_708],
+];
+
+/// Primes: the first three have their H above 2^32, five above 2^64, ten above 2^128.
+pub const PRIMES: [u32; 16] = [
+    9_973, 9_967, 9_949, 9_941, 9_931, 9_929, 9_923, 9_907, 9_901, 9_887, 9_883, 9_871, 9_859,
+    9_857, 9_851, 9_839,
+];
+
+/// A table whose H is above 2^32.
+pub fn vast(rng: &mut Rng) -> Draft {
+    let number = 4 + rng.below(13);
+    let periods = if rng.one_in(2) {
+        rng.pick(&WRAPPING).to_vec()
+    } else {
+        PRIMES[..number].to_vec()
+    };
+    let mut draft = Draft::default().signals(rng.below(3));
+    for period in periods {
+        let (start, end) = window(rng, period);
+        draft = draft.task(start, end, period);
+    }
+    add_accesses_of(rng, &mut draft, &[2, 6]);
+    draft
+}
+
+/// A table with a task of 258 to `most` instances that reads and writes signal 0, alone in writing it.
+pub fn many_instances(rng: &mut Rng, most: u32) -> Draft {
+    let period = rng.pick(&[1, 2, 3, 5, 12]);
+    let hyper = period * rng.between(258, most);
+    let mut draft = Draft::default();
+    let fast = rng.below(2) as u8;
+    for task in 0..2 {
+        let period = if task == fast { period } else { hyper };
+        let (start, end) = window(rng, period);
+        draft = draft.task(start, end, period);
+    }
+    draft.defaults = (0..1 + rng.below(3)).map(|_| word(rng)).collect();
+    draft = draft.reads(fast, 0).writes(fast, 0);
+    if rng.one_in(2) {
+        draft = draft.reads(1 - fast, 0);
+    }
+    for signal in 1..draft.defaults.len() as u8 {
+        draft = draft.reads(1 - fast, signal).writes(1 - fast, signal);
+        if rng.one_in(3) {
+            draft = draft.reads(fast, signal);
+        }
+    }
+    draft.without_clashes()
 }
 
 fn overused(rng: &mut Rng) -> Draft {

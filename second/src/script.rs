@@ -1,14 +1,15 @@
 //! Scripts in the console language, line by line, and blocks of lines that belong together.
 
 use crate::check::check;
-use crate::draft::figure_a;
+use crate::draft::{figure_a, Draft};
 use crate::hex::to_hex;
 use crate::plan::plan_schedule;
 use crate::random;
 use crate::rng::Rng;
 use crate::schedule::{schedule_bytes, SignalSchedule};
 use crate::table::{read_table, Access, Table};
-use crate::vary::{passing, variant};
+use crate::vary::{overfull, passing, variant};
+use std::ops::Range;
 
 #[derive(Default)]
 pub struct Script {
@@ -211,6 +212,77 @@ impl Script {
         while ticks < 3 * table.hyper {
             ticks += self.steps(rng, &table, ticks % table.hyper);
             self.near_call(rng, &table, ticks % table.hyper);
+        }
+    }
+
+    /// A machine that runs on through loadings whose counts sum above 256.
+    pub fn overfull_loads(&mut self, rng: &mut Rng, mut draft: Draft) {
+        let signals = draft.defaults.len().max(9 + rng.below(24));
+        draft.defaults.resize(signals, random::word(rng));
+        let table = read_table(&draft.bytes()).expect("accepted");
+        let Some(schedule) = passing(rng, &table) else {
+            return;
+        };
+        self.any_case(rng, "table", &draft.bytes());
+        self.bytes("load", &schedule_bytes(&schedule));
+        let mut ticks = 0;
+        for _ in 0..4 {
+            for _ in 0..3 {
+                self.near_call(rng, &table, ticks % table.hyper);
+                ticks += self.steps(rng, &table, ticks % table.hyper);
+            }
+            self.near_call(rng, &table, ticks % table.hyper);
+            let refused = overfull(rng, &table).expect("a plan exists");
+            self.bytes("load", &refused);
+            self.near_call(rng, &table, ticks % table.hyper);
+        }
+    }
+
+    /// A loading, then every access around instance 256 of the fastest task and on both sides of H, twice.
+    pub fn late_calls(&mut self, rng: &mut Rng, draft: &Draft) {
+        let table = read_table(&draft.bytes()).expect("accepted");
+        let schedule = passing(rng, &table).expect("a plan exists");
+        self.any_case(rng, "table", &draft.bytes());
+        self.bytes("load", &schedule_bytes(&schedule));
+        let (period, hyper) = (draft.shortest_period(), table.hyper);
+        let mut ticks = 0;
+        for start in [0, hyper] {
+            for (from, until) in [
+                (0, 2 * period),
+                (255 * period, 258 * period),
+                (hyper - 2 * period, hyper),
+            ] {
+                ticks = self.calls_between(rng, &table, ticks, start + from..start + until);
+            }
+        }
+        self.every_call(rng, &table);
+    }
+
+    /// Steps to the range and through it, with every access at each change of windows; gives the ticks after.
+    fn calls_between(
+        &mut self,
+        rng: &mut Rng,
+        table: &Table,
+        mut ticks: u32,
+        range: Range<u32>,
+    ) -> u32 {
+        if ticks < range.start {
+            self.line(&format!("step {}", range.start - ticks));
+            ticks = range.start;
+        }
+        while ticks < range.end {
+            self.every_call(rng, table);
+            let tick = ticks % table.hyper;
+            let steps = (next_change(table, tick) - tick).min(range.end - ticks);
+            self.line(&format!("step {}", steps));
+            ticks += steps;
+        }
+        ticks
+    }
+
+    fn every_call(&mut self, rng: &mut Rng, table: &Table) {
+        for (task, signal, access) in &table.accesses {
+            self.call(rng, *task as u64, *signal as u64, *access);
         }
     }
 

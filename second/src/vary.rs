@@ -75,6 +75,29 @@ pub fn variant(rng: &mut Rng, table: &Table, plan: &[SignalSchedule]) -> Vec<u8>
     }
 }
 
+/// Raises the counts from the last signal on until they sum to `sum` or are all 32.
+pub fn spread(schedule: &mut [SignalSchedule], sum: usize) {
+    let mut left = sum.saturating_sub(schedule.iter().map(|part| part.count as usize).sum());
+    for part in schedule.iter_mut().rev() {
+        let more = left.min(MAX_COUNT - part.count as usize);
+        part.count += more as u8;
+        left -= more;
+    }
+}
+
+/// Counts that sum above 256, for a table of nine signals or more; sometimes a clash beside, which 20 precedes.
+pub fn overfull(rng: &mut Rng, table: &Table) -> Option<Vec<u8>> {
+    let mut schedule = passing(rng, table)?;
+    let most = (MAX_COUNT * schedule.len()) as u32;
+    let any = rng.between(MAX_ELEMENTS as u32 + 1, most);
+    spread(&mut schedule, rng.pick(&[MAX_ELEMENTS + 1, any as usize]));
+    if rng.one_in(3) {
+        let signal = rng.below(schedule.len());
+        move_value(rng, table, signal, &mut schedule[signal]);
+    }
+    Some(schedule_bytes(&schedule))
+}
+
 /// One change of counts or elements.
 fn change(rng: &mut Rng, table: &Table, schedule: &mut Vec<SignalSchedule>) {
     if schedule.is_empty() {
@@ -119,6 +142,11 @@ pub fn move_value(rng: &mut Rng, table: &Table, signal: usize, part: &mut Signal
     }
     let element = rng.below(part.count as usize) as u8;
     let place = rng.below(part.writers.len());
+    move_to(table, signal, part, place, element);
+}
+
+/// The value of the writer at `place` into `element`, its readers with it.
+pub fn move_to(table: &Table, signal: usize, part: &mut SignalSchedule, place: usize, element: u8) {
     part.writers[place].1 = element;
     for (record, (_, value)) in part
         .readers

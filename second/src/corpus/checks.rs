@@ -1,15 +1,15 @@
 //! Schedules with every fault, alone and two at once.
 
-use super::{changed, sample};
+use super::{changed, many_signals, sample};
 use crate::check::check;
 use crate::draft::*;
 use crate::plan::plan_schedule;
 use crate::random::{self, Limits, SMALL};
 use crate::rng::Rng;
 use crate::schedule::{schedule_bytes, SignalSchedule};
-use crate::script::Script;
+use crate::script::{planned, Script};
 use crate::table::{read_table, Table};
-use crate::vary::{move_value, passing};
+use crate::vary::{move_to, move_value, passing, spread};
 
 pub fn checks(script: &mut Script) {
     script.line("# checks");
@@ -44,6 +44,80 @@ pub fn checks(script: &mut Script) {
         script.checks(&mut rng, &bytes, 12);
     }
     clashing_values(script, &mut rng, rich);
+    refused_tables(script, &mut Rng::new(8));
+    late_instances(script, &mut Rng::new(9));
+}
+
+/// A refused table comes before any schedule, whatever that holds: each of 1 to 11 a dozen times.
+fn refused_tables(script: &mut Script, rng: &mut Rng) {
+    let plan = planned(&figure_a().bytes()).expect("planned");
+    let schedules = [schedule_bytes(&plan), b"EN".to_vec(), Vec::new()];
+    for number in 1..=11 {
+        for round in 0..12 {
+            let bytes = refused_with(rng, number, round);
+            script.bytes("table", &bytes);
+            script.bytes("check", &schedules[round % schedules.len()]);
+        }
+    }
+}
+
+/// A table refused with the number; every other 8 has an H above 2^32.
+fn refused_with(rng: &mut Rng, number: usize, round: usize) -> Vec<u8> {
+    if number == 8 && round % 2 == 0 {
+        return random::vast(rng).bytes();
+    }
+    loop {
+        let bytes = random::spoiled(rng, number, SMALL);
+        if read_table(&bytes).is_err_and(|refusal| refusal.number as usize == number) {
+            return bytes;
+        }
+    }
+}
+
+/// Instances of 256 and more: what passes, and what only their high byte or their element spoils.
+fn late_instances(script: &mut Script, rng: &mut Rng) {
+    for _ in 0..7 {
+        let draft = random::many_instances(rng, 300);
+        let table = read_table(&draft.bytes()).expect("accepted");
+        let plan = schedule_bytes(&plan_schedule(&table).expect("planned"));
+        let passing = passing(rng, &table).expect("a plan exists");
+        let other = schedule_bytes(&passing);
+        script.bytes("table", &draft.bytes());
+        script.bytes("check", &plan);
+        script.bytes("check", &other);
+        let high = late_bytes(&other);
+        let place = rng.pick(&high);
+        changed(script, "check", &other, place, 0);
+        changed(script, "check", &other, place + 2, other[place + 2] ^ 1);
+        script.bytes("check", &late_clash(rng, &table, passing));
+    }
+}
+
+/// A value of signal 0 from instance 256 on in the element of the one before, which lives until it is published.
+fn late_clash(rng: &mut Rng, table: &Table, mut schedule: Vec<SignalSchedule>) -> Vec<u8> {
+    let part = &mut schedule[0];
+    let place = 256 + rng.below(part.writers.len() - 256);
+    let element = part.writers[place - 1].1;
+    move_to(table, 0, part, place, element);
+    schedule_bytes(&schedule)
+}
+
+/// The places of the high bytes of instances from 256 on: in a WI or RI, after mark, signal and task.
+fn late_bytes(schedule: &[u8]) -> Vec<usize> {
+    let mut high = Vec::new();
+    let mut start = 0;
+    while schedule.len() - start > 2 {
+        let size = if schedule[start..].starts_with(b"BF") {
+            4
+        } else {
+            7
+        };
+        if size == 7 && schedule[start + 4] != 0 {
+            high.push(start + 4);
+        }
+        start += size;
+    }
+    high
 }
 
 /// A schedule cut at each byte, each byte changed, each count and element at its bounds, and two faults at once.
@@ -103,12 +177,7 @@ fn empty_schedules(script: &mut Script) {
 /// 20: many signals whose spare counts sum to 256 and past it, also with faults that come before and after.
 fn sums_of_counts(script: &mut Script) {
     for signals in [8_usize, 9, 10, 12, 20, 32] {
-        let draft = Draft::default()
-            .task(0, 4, 10)
-            .task(0, 5, 5)
-            .signals(signals)
-            .writes(0, 1)
-            .reads(1, 1);
+        let draft = many_signals(signals);
         let table = read_table(&draft.bytes()).expect("accepted");
         let plan = plan_schedule(&table).expect("planned");
         script.bytes("table", &draft.bytes());
@@ -123,17 +192,7 @@ fn sums_of_counts(script: &mut Script) {
     }
 }
 
-/// Raises the counts from the last signal on until they sum to `sum` or are all 32.
-fn spread(schedule: &mut [SignalSchedule], sum: usize) {
-    let mut left = sum.saturating_sub(schedule.iter().map(|part| part.count as usize).sum());
-    for part in schedule.iter_mut().rev() {
-        let more = left.min(32 - part.count as usize);
-        part.count += more as u8;
-        left -= more;
-    }
-}
-
-fn with_fault(mut schedule: Vec<SignalSchedule>, fault: usize) -> Vec<u8> {
+pub fn with_fault(mut schedule: Vec<SignalSchedule>, fault: usize) -> Vec<u8> {
     let last = schedule.len() - 1;
     match fault {
         0 => schedule[1].readers[1].1 = 0,

@@ -1,6 +1,7 @@
 //! Machines over many hyper-periods.
 
-use super::sample;
+use super::checks::with_fault;
+use super::{many_signals, sample};
 use crate::draft::*;
 use crate::plan::plan_schedule;
 use crate::random::{self, Limits, SMALL};
@@ -8,7 +9,7 @@ use crate::rng::Rng;
 use crate::schedule::schedule_bytes;
 use crate::script::Script;
 use crate::table::read_table;
-use crate::vary::passing;
+use crate::vary::{passing, spread};
 
 pub fn machines(script: &mut Script) {
     script.line("# machines");
@@ -56,6 +57,39 @@ pub fn machines(script: &mut Script) {
             30
         };
         script.machine(&mut rng, &bytes, calls);
+    }
+    overfull_loads(script);
+    let mut rng = Rng::new(10);
+    for _ in 0..14 {
+        let draft = random::many_instances(&mut rng, 300);
+        script.late_calls(&mut rng, &draft);
+    }
+}
+
+/// Loadings refused because the counts sum above 256, while the machine runs on with what it holds.
+fn overfull_loads(script: &mut Script) {
+    for signals in [9_usize, 10, 12, 20, 32] {
+        let draft = many_signals(signals);
+        let table = read_table(&draft.bytes()).expect("accepted");
+        let mut fullest = plan_schedule(&table).expect("planned");
+        spread(&mut fullest, 256);
+        script.bytes("table", &draft.bytes());
+        script.bytes("load", &schedule_bytes(&fullest));
+        script.line("write 0 1 20");
+        script.line("step 6");
+        for sum in [257, 258, 272, 288, 1_024] {
+            let mut schedule = fullest.clone();
+            spread(&mut schedule, sum);
+            script.bytes("load", &schedule_bytes(&schedule));
+            script.line("read 1 1");
+            // 20 comes before 21 and 22.
+            for fault in 0..2 {
+                script.bytes("load", &with_fault(schedule.clone(), fault));
+            }
+            script.line("read 1 1");
+        }
+        script.bytes("load", &schedule_bytes(&fullest));
+        script.line("read 1 1");
     }
 }
 

@@ -22,6 +22,17 @@ pub fn plans(script: &mut Script) {
         };
         script.plans(&mut rng, &bytes, 700);
     }
+    late_listings(script);
+}
+
+/// Instances of 256 and more, planned and listed.
+fn late_listings(script: &mut Script) {
+    let mut rng = Rng::new(11);
+    for most in [258, 258, 260, 300, 400, 511] {
+        script.bytes("table", &random::many_instances(&mut rng, most).bytes());
+        script.line("list");
+        script.line(&format!("plan {}", 40 * most));
+    }
 }
 
 fn figure_plans(script: &mut Script) {

@@ -17,6 +17,7 @@ pub fn tables(script: &mut Script) {
     past_the_number(script);
     access_orders(script);
     sums(script);
+    vast_hypers(script);
     clashes(script);
     long_lines(script);
     script.every_bad_line();
@@ -342,6 +343,27 @@ fn sums(script: &mut Script) {
         wide(),
     ] {
         script.bytes("table", &draft.bytes());
+    }
+}
+
+/// H above 2^32, 2^64 and 2^128: 8 whatever its true value, also where more is broken.
+fn vast_hypers(script: &mut Script) {
+    let task = |draft: Draft, period: &u32| draft.task(0, 1, *period);
+    for [one, other, last] in random::WRAPPING {
+        for periods in [[one, other, last], [last, other, one], [other, last, one]] {
+            let draft = periods.iter().fold(Draft::default(), task);
+            script.bytes("table", &draft.bytes());
+        }
+    }
+    for number in 2..=16 {
+        let draft = random::PRIMES[..number].iter().fold(Draft::default(), task);
+        script.bytes("table", &draft.bytes());
+        let both = draft.signals(1).writes(0, 0).writes(number as u8 - 1, 0);
+        script.bytes("table", &both.bytes());
+    }
+    let mut rng = Rng::new(7);
+    for _ in 0..20 {
+        script.bytes("table", &random::vast(&mut rng).bytes());
     }
 }
 
