@@ -1,14 +1,16 @@
 -- The machine runs as promised: specs/Runs.antt, proved.
 use Prim.Native.Nat.{ℕ}
 use mathlib.Core.Path.{_≡_, refl, sym, ap, ap₂, subst, _∙_}
-use mathlib.Core.Bool.{true}
+use mathlib.Core.Bool.{true, false}
+use mathlib.Core.Logic.{_↔_, _⊎_, inl, inr}
 use mathlib.Core.List.{List, [], _∷_, _++_, map}
 use native.Mathlib.Omega.{arith}
-use borrow.Author.Tests.{eqb-false}
+use borrow.Author.Tests.{eqb-false, eq-eqb}
 use Rattle.rules.specs.Words.{when}
 use Rattle.rules.specs.Windows.{Table}
 use Rattle.rules.specs.Table.{Fits}
-use Rattle.rules.specs.Numbers.{Told, told, unfit}
+use Rattle.rules.specs.Numbers.{Told, tell, told, noAccess, outside, unfit}
+use Rattle.rules.specs.Stores.{wordIn}
 use Rattle.rules.specs.Bytes.{scheduleIn}
 use Rattle.rules.specs.Reading.{tableIn}
 use Rattle.rules.specs.Meaning.{word, Call, step, read, write, refused, past}
@@ -24,16 +26,20 @@ use Rattle.fields.proofs.Told.{told-exact}
 use Rattle.machine.specs.declared.Machine.{Machine}
 use Rattle.machine.specs.declared.Stepped.{Stepped}
 use Rattle.machine.specs.declared.WordRead.{WordRead}
-use Rattle.machine.specs.Calls.{unloaded, answered, wordRead, stepIn, readIn, writeIn, readOf, writeOf}
+use Rattle.state.specs.Parts as parts
+use Rattle.state.specs.Rows.{placeOf}
+use Rattle.state.specs.declared.Place.{Place}
+use Rattle.machine.specs.Calls.{keeping, unloaded, fit, Left, readAt, writtenAt, stepIn, readIn, writeIn}
 use Rattle.machine.specs.Gives.{NewGives}
 use Rattle.machine.specs.Load.{loadLeaves}
 use Rattle.machine.proofs.Load.{refused-stays}
 use Rattle.simulation.specs.Simulates.{Runs, Said, said, outcomeSaid, callSaid, callLeaves}
-use Rattle.simulation.proofs.Fit.{unloaded-unfit, refused-leaves}
+use Rattle.simulation.proofs.Fit.{unloaded-unfit, unfit-exact, refused-leaves, step-fits, write-fits}
 use Rattle.simulation.proofs.Simulates.{simulates}
 use Rattle.simulation.proofs.Started.{loads-exact, loads-right}
 use Rattle.promises.proofs.Schedules.{passing-done, done-passing}
-use Rattle.promises.specs.Runs.{Gives, loads, steps, reads, writes, Run, none, next, replySaid, storyOf, NextCall, AsPromised, RunsAsPromised, LoadsExactly}
+use Rattle.export.specs.Gives.{PressNewGives}
+use Rattle.promises.specs.Runs.{Gives, loads, steps, reads, writes, lists-loads, lists-steps, lists-reads, lists-writes, press-loads, press-steps, press-reads, press-writes, Run, none, next, replySaid, storyOf, AnyCall, AnyCalls, NextCall, AsPromised, RunsAsPromised, LoadsExactly}
 
 -- ---- what the contracts say of each request, as functions
 
@@ -45,11 +51,88 @@ abbrev codeLeaves : Machine → Request → Machine
 codeLeaves m (load table schedule) = loadLeaves m table schedule
 codeLeaves m (call c) = callLeaves m c
 
+-- the place of what a call says is 0
+read-place : (store : List ℕ) (p : Place) → told (readAt store p .answer) .place ≡ 0
+read-place store (Place.At p) = refl
+read-place store Place.NoAccess = refl
+read-place store Place.Outside = refl
+
+write-place : (n store : List ℕ) (w : ℕ) (p : Place) → told (writtenAt n store w p .answer) .place ≡ 0
+write-place n store w (Place.At p) = refl
+write-place n store w Place.NoAccess = refl
+write-place n store w Place.Outside = refl
+
+no-place : (m : Machine) (c : Call) → callSaid m c .told .place ≡ 0
+unfolding stepIn readIn writeIn when
+no-place m step = split (fit m) (λ f. rw f) (λ f. rw f)
+no-place m (read k s) = split (fit m) (λ f. rw f (read-place (m .store) (placeOf (m .numbers) parts.reads k s))) (λ f. rw f)
+no-place m (write k s c) = split (fit m) (λ f. rw f (write-place (m .numbers) (m .store) (wordIn c) (placeOf (m .numbers) parts.writes k s))) (λ f. rw f)
+
+-- what C is told of a call
+told-from-C : (m : Machine) (c : Call) (number w : ℕ) → number ≡ callSaid m c .told .number → w ≡ callSaid m c .word → said (tell number 0) w ≡ callSaid m c
+told-from-C m c number w e f = λ i. said (tell (e i) (sym (no-place m c) i)) (f i)
+
 gives-said : (m : Machine) (e : Request) (a : Said) (n : Machine) → Gives m e a n → (a ≡ codeSaid m e) × (n ≡ codeLeaves m e)
 gives-said m e a n (loads table schedule r f) = (ap (λ (t : Told). said t 0) (f .0), f .1)
 gives-said m e a n (steps r f) = (ap (λ (x : Stepped). said (told (x .answer)) 0) f, ap (λ (x : Stepped). x .machine) f)
 gives-said m e a n (reads k s r f) = (ap (λ (x : WordRead). said (told (x .answer)) (x .word)) f, refl)
 gives-said m e a n (writes k s w r f) = (ap (λ (x : Stepped). said (told (x .answer)) 0) f, ap (λ (x : Stepped). x .machine) f)
+gives-said m e a n (lists-loads table schedule r p d q f) = (ap (λ (t : Told). said t 0) (f .0), f .1)
+gives-said m e a n (lists-steps r p q f) = (ap (λ (x : Left). said (told (x .answer)) 0) f, ap (λ (x : Left). keeping (x .numbers) (m .defaults) (x .store)) f)
+gives-said m e a n (lists-reads k s r f) = (ap (λ (x : WordRead). said (told (x .answer)) (x .word)) f, refl)
+gives-said m e a n (lists-writes k s w r q f) = (ap (λ (x : Left). said (told (x .answer)) 0) f, ap (λ (x : Left). keeping (x .numbers) (m .defaults) (x .store)) f)
+gives-said m e a n (press-loads table schedule number place p d q f) = (λ i. said (tell (f .0 i) (f .1 i)) 0, f .2)
+gives-said m e a n (press-steps number p q f) = (told-from-C m step number 0 (f .0) refl, λ i. keeping (f .1 i) (m .defaults) (f .2 i))
+gives-said m e a n (press-reads k s number w f) = (told-from-C m (read k s) number w (f .0) (f .1), refl)
+gives-said m e a n (press-writes k s w number q f) = (told-from-C m (write k s (word w)) number 0 (f .0) refl, λ i. keeping (f .1 i) (m .defaults) (f .2 i))
+
+-- ---- demand 1 of any call
+
+-- a call's answer that has 25 is Unfit
+unfit-answer : (m : Machine) (c : Call) (x : Answer) → told x ≡ callSaid m c .told → callSaid m c .told .number ≡ unfit → x ≡ Answer.Unfit
+unfit-answer m c x e q = told-exact x Answer.Unfit (e ∙ (λ i. tell (q i) (no-place m c i)))
+
+call-unfit : (m : Machine) (c : Call) → (callSaid m c .told .number ≡ unfit) ↔ (fit m ≡ false)
+call-unfit m step = (λ q. unfit-exact m .step .0 (unfit-answer m step _ refl q), λ f. ap (λ (x : Answer). told x .number) (unfit-exact m .step .1 f))
+call-unfit m (read k s) = (λ q. unfit-exact m .read k s .0 (unfit-answer m (read k s) _ refl q), λ f. ap (λ (x : Answer). told x .number) (unfit-exact m .read k s .1 f))
+call-unfit m (write k s c) =
+    (λ q. unfit-exact m .write k s (wordIn c) .0 (unfit-answer m (write k s c) _ refl q), λ f. ap (λ (x : Answer). told x .number) (unfit-exact m .write k s (wordIn c) .1 f))
+
+call-refused : (m : Machine) (c : Call) → (callSaid m c .told .number ≡ 0 → ⊥) → (callLeaves m c ≡ m) × (callSaid m c .word ≡ 0)
+call-refused m step n = (refused-leaves m .step (λ e. n (ap (λ (x : Answer). told x .number) e)), refl)
+call-refused m (read k s) n = (refl, refused-leaves m .read k s (λ e. n (ap (λ (x : Answer). told x .number) e)))
+call-refused m (write k s c) n = (refused-leaves m .write k s (wordIn c) (λ e. n (ap (λ (x : Answer). told x .number) e)), refl)
+
+call-fits : (m : Machine) (c : Call) → fit m ≡ true → fit (callLeaves m c) ≡ true
+call-fits m step f = step-fits m f
+call-fits m (read k s) f = f
+call-fits m (write k s c) f = write-fits m k s (wordIn c) f
+
+not-both : (table schedule : List ℕ) (c : Call) → load table schedule ≡ call c → ⊥
+not-both table schedule c e = let z : _≡_ {A = ℕ} 0 1 = cc in omega arith
+
+any-code : (m : Machine) (e : Request) → AnyCall m e (codeSaid m e) (codeLeaves m e)
+any-code m (load table schedule) =
+    record {
+      refused = λ n. (refused-stays table schedule m n, refl);
+      unfit-is = λ c q. absurd (not-both table schedule c q);
+      stays-fit = λ f. split (accepts table schedule)
+          (λ q. loads-right m table schedule q .fits)
+          (λ q. rw (refused-stays table schedule m (eqb-false (loadSays table schedule .number) 0 q)) f);
+      accepted = λ t s q done. loads-right m table schedule (eq-eqb (loadSays table schedule .number) 0 done) .fits;
+    }
+any-code m (call c) =
+    record {
+      refused = call-refused m c;
+      unfit-is = λ d q. call-unfit m c;
+      stays-fit = call-fits m c;
+      accepted = λ t s q. absurd (not-both t s c (sym q));
+    }
+
+pub any-calls : AnyCalls
+any-calls m e a n g =
+    let (x, y) = gives-said m e a n g in
+    subst (λ (z : Said). AnyCall m e z n) (sym x) (subst (λ (z : Machine). AnyCall m e (codeSaid m e) z) (sym y) (any-code m e))
 
 -- ---- one call more
 
@@ -108,38 +191,25 @@ stands-run (f ∷ fs) (b ∷ bs) m n r h S (next l k o e a es rs g R) =
 
 -- ---- the next call, in the demand's words
 
--- what is said determines the answer
-one-answer : (a b : Answer) (v w : ℕ) → said (told a) v ≡ said (told b) w → a ≡ b
-one-answer a b v w e = told-exact a b (ap (λ (x : Said). x .told) e)
-
-one-word : (r : WordRead) (a : Answer) (w : ℕ) → said (told (r .answer)) (r .word) ≡ said (told a) w → r ≡ wordRead a w
-one-word r a w e = λ i. record { answer = one-answer (r .answer) a (r .word) w e i; word = e i .word }
-
--- a refusal leaves the machine
-one-refusal : (m : Machine) (k s w : ℕ) (a : Answer) → (a ≡ Answer.Done 0 → ⊥) → writeOf m k s w .answer ≡ a → writeOf m k s w ≡ answered a m
-one-refusal m k s w a n e = λ i. record { answer = e i; machine = refused-leaves m .write k s w (λ z. n (sym e ∙ z)) i }
-
 going-on : (tab : Table) (L : Layout) → Fits tab → (cs : List Call) → Demand3 tab L cs → (m : Machine) → Runs tab L (run tab L (loaded tab L) cs) m → NextCall tab (past [] cs) m
 going-on tab L F cs D m R =
     record {
       ready = R .fits;
-      read-inside = λ k s i p o r g. g ∙ one-word (readOf m k s) _ _ (says (read k s) ∙ ap outcomeSaid (D .read-inside k s i p o));
-      write-inside = λ k s w i p o r g. ap (λ (x : Stepped). x .answer) g ∙ one-answer _ (Answer.Done 0) _ 0 (says (write k s (word w)) ∙ ap outcomeSaid (D .write-inside k s (word w) i p o));
-      steps = λ r g. ap (λ (x : Stepped). x .answer) g ∙ one-answer _ (Answer.Done 0) _ 0 (says step ∙ ap outcomeSaid (D .steps));
-      read-outside = λ k s p o r g. g ∙ one-word (readOf m k s) _ _ (says (read k s) ∙ ap outcomeSaid (D .read-outside k s p o));
-      write-outside = λ k s w p o r g. g ∙ one-refusal m k s w _ outside-refuses (one-answer _ Answer.Outside _ 0 (says (write k s (word w)) ∙ ap outcomeSaid (D .write-outside k s (word w) p o)));
-      read-unknown = λ k s n r g. g ∙ one-word (readOf m k s) _ _ (says (read k s) ∙ ap outcomeSaid (D .read-unknown k s n));
-      write-unknown = λ k s w n r g. g ∙ one-refusal m k s w _ unknown-refuses (one-answer _ Answer.NoAccess _ 0 (says (write k s (word w)) ∙ ap outcomeSaid (D .write-unknown k s (word w) n)));
+      read-inside = λ k s i p o a n g. says (read k s) a n g ∙ ap outcomeSaid (D .read-inside k s i p o);
+      write-inside = λ k s w i p o a n g. says (write k s (word w)) a n g ∙ ap outcomeSaid (D .write-inside k s (word w) i p o);
+      steps = λ a n g. says step a n g ∙ ap outcomeSaid (D .steps);
+      read-outside = λ k s p o a n g. refuses (read k s) a n outside g (says (read k s) a n g ∙ ap outcomeSaid (D .read-outside k s p o)) (λ z. omega arith);
+      write-outside = λ k s w p o a n g. refuses (write k s (word w)) a n outside g (says (write k s (word w)) a n g ∙ ap outcomeSaid (D .write-outside k s (word w) p o)) (λ z. omega arith);
+      read-unknown = λ k s u a n g. refuses (read k s) a n noAccess g (says (read k s) a n g ∙ ap outcomeSaid (D .read-unknown k s u)) (λ z. omega arith);
+      write-unknown = λ k s w u a n g. refuses (write k s (word w)) a n noAccess g (says (write k s (word w)) a n g ∙ ap outcomeSaid (D .write-unknown k s (word w) u)) (λ z. omega arith);
     }
   where
-    says : (c : Call) → callSaid m c ≡ outcomeSaid (answer tab L (run tab L (loaded tab L) cs) c)
-    says c = simulates tab L F (run tab L (loaded tab L) cs) m R c .0
+    says : (c : Call) (a : Said) (n : Machine) → Gives m (call c) a n → a ≡ outcomeSaid (answer tab L (run tab L (loaded tab L) cs) c)
+    says c a n g = gives-said m (call c) a n g .0 ∙ simulates tab L F (run tab L (loaded tab L) cs) m R c .0
 
-    outside-refuses : Answer.Outside ≡ Answer.Done 0 → ⊥
-    outside-refuses e = let z : _≡_ {A = ℕ} 0 1 = cc in omega arith
-
-    unknown-refuses : Answer.NoAccess ≡ Answer.Done 0 → ⊥
-    unknown-refuses e = let z : _≡_ {A = ℕ} 0 1 = cc in omega arith
+    -- a refusal leaves the machine
+    refuses : (c : Call) (a : Said) (n : Machine) (number : ℕ) → Gives m (call c) a n → a ≡ said (tell number 0) 0 → (number ≡ 0 → ⊥) → (a ≡ said (tell number 0) 0) × (n ≡ m)
+    refuses c a n number g e z = (e, any-calls m (call c) a n g .refused (λ q. z (sym (ap (λ (x : Said). x .told .number) e) ∙ q)) .0)
 
 Promised : Machine → Story → Type 0
 Promised m untold = m ≡ unloaded
@@ -150,7 +220,7 @@ unfolding Promised
 stands-promised m idle untold (fresh n e) = e
 stands-promised m (on t G st) (since u g) (going tab L F D cs n R) = going-on tab L F cs (D cs) m R
 
-new-promised : (new : Machine) → NewGives new → (es : List Request) (rs : List Said) (m : Machine) → Run new es rs m → AsPromised es rs m
+new-promised : (new : Machine) → new ≡ unloaded → (es : List Request) (rs : List Said) (m : Machine) → Run new es rs m → AsPromised es rs m
 unfolding Promised
 new-promised new g es rs m R =
     let (q, (r, S)) = stands-run es rs new m idle untold (fresh new g) R in
@@ -168,9 +238,19 @@ unfolding loadLeaves
 anew-promised m table schedule q es (a ∷ rs) n (next l k o e b fs bs (loads t s r g) R) =
     new-promised unloaded refl (load table schedule ∷ es) (a ∷ rs) n
     (next unloaded (r .machine) n (load table schedule) a es rs (loads table schedule r (g .0, g .1 ∙ rw q)) R)
+anew-promised m table schedule q es (a ∷ rs) n (next l k o e b fs bs (lists-loads t s r x d y g) R) =
+    new-promised unloaded refl (load table schedule ∷ es) (a ∷ rs) n
+    (next unloaded (keeping x d y) n (load table schedule) a es rs (lists-loads table schedule r x d y (g .0, g .1 ∙ rw q)) R)
+anew-promised m table schedule q es (a ∷ rs) n (next l k o e b fs bs (press-loads t s number place x d y g) R) =
+    new-promised unloaded refl (load table schedule ∷ es) (a ∷ rs) n
+    (next unloaded (keeping x d y) n (load table schedule) a es rs (press-loads table schedule number place x d y (g .0, g .1, g .2 ∙ rw q)) R)
 
 pub runs-as-promised : RunsAsPromised
-runs-as-promised = record { new = new-promised; anew = anew-promised }
+runs-as-promised = record { new = λ m g. new-promised m (either m g); anew = anew-promised }
+  where
+    either : (m : Machine) → NewGives m ⊎ PressNewGives (m .numbers) (m .defaults) (m .store) → m ≡ unloaded
+    either m (inl e) = e
+    either m (inr e) = e
 
 -- ---- loading
 

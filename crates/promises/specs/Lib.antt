@@ -4,5 +4,6 @@ pub mod Lists
 pub mod Listings
 pub mod Schedules
 pub mod Runs
+pub mod FromC
 pub mod Demands
 pub mod One
