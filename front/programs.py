@@ -12,7 +12,7 @@ ROOT = pathlib.Path(__file__).resolve().parents[1]
 # Other programs that speak the same languages may stand in, to hold one against the other.
 ELSEWHERE = os.environ.get("PRESS_PROGRAMS")
 LOG = ROOT / "target/press.log"
-MINUTES = {"listing": 3, "rig": 6}
+MINUTES = {"listing": 4, "rig": 6}
 PROVED = re.compile(r"rt: (\w+) proved \((\d+) s\)\n")
 
 
