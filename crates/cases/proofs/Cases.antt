@@ -1,23 +1,23 @@
 -- Cases A to J about the public functions: specs/Cases.antt, proved by computing both sides.
 use mathlib.Core.Path.{refl}
 use Rattle.rules.specs.Words.{total, every, highest, gather, when, lowest}
-use Rattle.rules.specs.Euclid.{gcdIn, gcdOf, lcmOf}
-use Rattle.rules.specs.Windows.{lcmAll, hyper, isOpen}
-use Rattle.rules.specs.Values.{same, publisher, opens_at, latest, bound, next, last_of, lastReader, until}
-use Rattle.rules.specs.Table.{accessesOf, uses, everyWriter, windowed, single}
+use Rattle.rules.specs.Euclid.{gcd_in, gcd_of, lcm_of}
+use Rattle.rules.specs.Windows.{lcm_all, hyper, is_open}
+use Rattle.rules.specs.Values.{same, publisher, opens_at, latest, bound, next, last_of, last_reader, until}
+use Rattle.rules.specs.Table.{accesses_of, uses, every_writer, windowed, single}
 use Rattle.rules.specs.Schedule.{base, clash}
-use Rattle.rules.specs.Plan.{busy, lowestFree, planAfter, count_of, elementIn, writersOf, liveList, plan}
-use Rattle.rules.specs.Bytes.{writersBelow, readersBelow, parts_of, parts, size_of, start_of, scheduleLength, recordsOf, bytes_of, scheduleIn}
-use Rattle.rules.specs.Answers.{standsAt, tableSays, planSays, liveSays, recordsSay, endSays, firstSays, wholeSays, checkSays}
-use Rattle.rules.specs.Fields.{holdsAt, markAt}
+use Rattle.rules.specs.Plan.{busy, lowest_free, plan_after, count_of, element_in, writers_of, live_list, plan}
+use Rattle.rules.specs.Bytes.{writers_below, readers_below, parts_of, parts, size_of, start_of, schedule_length, records_of, bytes_of, schedule_in}
+use Rattle.rules.specs.Answers.{stands_at, table_says, plan_says, live_says, records_say, end_says, first_says, whole_says, check_says}
+use Rattle.rules.specs.Fields.{holds_at, mark_at}
 use Rattle.rules.specs.Encode.{encode}
-use Rattle.rules.specs.Records.{taskIn, taskAt, signalAt, rightAt, accessIn, accessAt, end_at}
-use Rattle.rules.specs.Reading.{section, tasksIn, signalsIn, accessesIn, joinedOf, gridFrom, writesIn, readsIn, gridIn, tableIn, ended, verdict, readSays}
-use Rattle.rules.specs.Loading.{loadSays}
-use Rattle.plan.specs.Planning.{planTold, plannedInto, planOut}
-use Rattle.lives.specs.Lives.{liveValues, liveTold, liveFront}
+use Rattle.rules.specs.Records.{task_in, task_at, signal_at, right_at, access_in, access_at, end_at}
+use Rattle.rules.specs.Reading.{section, tasks_in, signals_in, accesses_in, joined_of, grid_from, writes_in, reads_in, grid_in, table_in, ended, verdict, read_says}
+use Rattle.rules.specs.Loading.{load_says}
+use Rattle.plan.specs.Planning.{plan_told, planned_into, plan_out}
+use Rattle.lives.specs.Lives.{live_values, live_told, live_front}
 use Rattle.cases.specs.Cases.{AsDocument01Says}
 
-pub as-document-01-says : AsDocument01Says
-unfolding total every highest gather when lowest gcdIn gcdOf lcmOf lcmAll hyper isOpen same publisher latest bound next last_of lastReader until accessesOf uses everyWriter windowed single base clash busy lowestFree planAfter count_of elementIn opens_at writersOf liveList plan writersBelow readersBelow parts_of parts size_of start_of scheduleLength recordsOf bytes_of scheduleIn standsAt tableSays planSays liveSays recordsSay endSays firstSays wholeSays checkSays holdsAt markAt encode taskIn taskAt signalAt rightAt accessIn accessAt end_at section tasksIn signalsIn accessesIn joinedOf gridFrom writesIn readsIn gridIn tableIn ended verdict readSays loadSays planTold plannedInto planOut liveValues liveTold liveFront
-as-document-01-says = refl
+pub as_document_01_says : AsDocument01Says
+unfolding total every highest gather when lowest gcd_in gcd_of lcm_of lcm_all hyper is_open same publisher latest bound next last_of last_reader until accesses_of uses every_writer windowed single base clash busy lowest_free plan_after count_of element_in opens_at writers_of live_list plan writers_below readers_below parts_of parts size_of start_of schedule_length records_of bytes_of schedule_in stands_at table_says plan_says live_says records_say end_says first_says whole_says check_says holds_at mark_at encode task_in task_at signal_at right_at access_in access_at end_at section tasks_in signals_in accesses_in joined_of grid_from writes_in reads_in grid_in table_in ended verdict read_says load_says plan_told planned_into plan_out live_values live_told live_front
+as_document_01_says = refl

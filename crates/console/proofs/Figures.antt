@@ -10,40 +10,40 @@ use borrow.Author.Tests.{lt-ltb, le-ltb, leb-true}
 use Rattle.rules.specs.Listing.{digit, figures}
 use Rattle.console.specs.declared.digits.Numeral.{Numeral}
 use Rattle.console.specs.Ascii.{dash}
-use Rattle.console.specs.Page.{Page, putOne, put_all, glyphOf, pairsOf, hexOf}
+use Rattle.console.specs.Page.{Page, put_one, put_all, glyph_of, pairs_of, hex_of}
 use Rattle.console.specs.Digits.{within, limited}
 use Rattle.fields.proofs.Whens.{on, off}
-use Rattle.console.proofs.Turns.{put-append}
+use Rattle.console.proofs.Turns.{put_append}
 
-pub put_one : (p : Page) {g d : ℕ} {r : Page} → r ≡ putOne g p → g ≡ d → r ≡ putOne d p
-put_one p e f = e ∙ ap (λ (x : ℕ). putOne x p) f
+pub put_one_lem : (p : Page) {g d : ℕ} {r : Page} → r ≡ put_one g p → g ≡ d → r ≡ put_one d p
+put_one_lem p e f = e ∙ ap (λ (x : ℕ). put_one x p) f
 
 -- a decimal digit
-decimal_digit : (d : ℕ) {g : ℕ} → d < 10 → g ≡ glyphOf d → g ≡ digit d
-unfolding glyphOf
+decimal_digit : (d : ℕ) {g : ℕ} → d < 10 → g ≡ glyph_of d → g ≡ digit d
+unfolding glyph_of
 decimal_digit d h k = k ∙ on _ _ (lt-ltb d 10 h)
 
 -- no figures
-pub figures-none : (most n : ℕ) (p : Page) → most ≡ 0 → p ≡ put_all (figures most n) p
+pub figures_none : (most n : ℕ) (p : Page) → most ≡ 0 → p ≡ put_all (figures most n) p
 unfolding put_all figures
-figures-none most n p e = sym (ap (λ (k : ℕ). put_all (figures k n) p) e)
+figures_none most n p e = sym (ap (λ (k : ℕ). put_all (figures k n) p) e)
 
 -- one figure
-pub figures-one : (most n : ℕ) (p : Page) {g : ℕ} {r : Page} → (most ≡ 0 → ⊥) → n < 10 → r ≡ putOne g p → g ≡ glyphOf n → r ≡ put_all (figures most n) p
+pub figures_one : (most n : ℕ) (p : Page) {g : ℕ} {r : Page} → (most ≡ 0 → ⊥) → n < 10 → r ≡ put_one g p → g ≡ glyph_of n → r ≡ put_all (figures most n) p
 unfolding put_all figures
-figures-one zero n p f h e k = absurd (f refl)
-figures-one (suc most) n p f h e k =
-    put_one p e (decimal_digit n h k) ∙ sym (ap (λ (l : List ℕ). put_all l p) (on (digit n ∷ []) (figures most (n / 10) ++ digit (n % 10) ∷ []) (lt-ltb n 10 h)))
+figures_one zero n p f h e k = absurd (f refl)
+figures_one (suc most) n p f h e k =
+    put_one_lem p e (decimal_digit n h k) ∙ sym (ap (λ (l : List ℕ). put_all l p) (on (digit n ∷ []) (figures most (n / 10) ++ digit (n % 10) ∷ []) (lt-ltb n 10 h)))
 
 -- the front figures, and the last
-pub figures-more : (most n : ℕ) (p : Page) {g : ℕ} {q r : Page} → (most ≡ 0 → ⊥) → 10 ≤ n → q ≡ put_all (figures (most - 1) (n / 10)) p → r ≡ putOne g q → g ≡ glyphOf (n % 10) → r ≡ put_all (figures most n) p
+pub figures_more : (most n : ℕ) (p : Page) {g : ℕ} {q r : Page} → (most ≡ 0 → ⊥) → 10 ≤ n → q ≡ put_all (figures (most - 1) (n / 10)) p → r ≡ put_one g q → g ≡ glyph_of (n % 10) → r ≡ put_all (figures most n) p
 unfolding put_all figures
-figures-more zero n p f h front e k = absurd (f refl)
-figures-more (suc most) n p {q = q} f h front e k =
+figures_more zero n p f h front e k = absurd (f refl)
+figures_more (suc most) n p {q = q} f h front e k =
     let less : suc most - 1 ≡ most = omega arith in
-    put_one q e (decimal_digit (n % 10) (omega arith) k)
-    ∙ ap (putOne (digit (n % 10))) (front ∙ ap (λ (m : ℕ). put_all (figures m (n / 10)) p) less)
-    ∙ sym (put-append (figures most (n / 10)) (digit (n % 10) ∷ []) p)
+    put_one_lem q e (decimal_digit (n % 10) (omega arith) k)
+    ∙ ap (put_one (digit (n % 10))) (front ∙ ap (λ (m : ℕ). put_all (figures m (n / 10)) p) less)
+    ∙ sym (put_append (figures most (n / 10)) (digit (n % 10) ∷ []) p)
     ∙ sym (ap (λ (l : List ℕ). put_all l p) (off (digit n ∷ []) (figures most (n / 10) ++ digit (n % 10) ∷ []) (le-ltb n 10 h)))
 
 -- what a test of bounds says
@@ -60,9 +60,9 @@ pub within_low : (low high b : ℕ) → within low high b ≡ true → low ≤ b
 unfolding within
 within_low low high b e = leb-true low b (and_left (leb low b) (leb b high) e)
 
-pub within-high : (low high b : ℕ) → within low high b ≡ true → b ≤ high
+pub within_high : (low high b : ℕ) → within low high b ≡ true → b ≤ high
 unfolding within
-within-high low high b e = leb-true b high (and_right (leb low b) (leb b high) e)
+within_high low high b e = leb-true b high (and_right (leb low b) (leb b high) e)
 
 -- a number above the most, and one that is not
 pub over : (most v : ℕ) → most < v → Numeral.Bad ≡ limited most v
@@ -81,12 +81,12 @@ pub three : {A B C D : Type 0} (f : A → B → C → D) {a x : A} {b y : B} {c 
 three f {a} {x} {b} {y} {c} {z} e k m = sym (ap (λ v. f v b c) e ∙ ap (λ v. f x v c) k ∙ ap (f x y) m)
 
 -- bytes in hex: none, and some
-pub hex-none : (l : List ℕ) (p : Page) {r : Page} → length l ≡ 0 → r ≡ putOne dash p → r ≡ put_all (hexOf l) p
-unfolding put_all hexOf
-hex-none [] p z e = e
-hex-none (b ∷ l) p z e = absurd (omega arith)
+pub hex_none : (l : List ℕ) (p : Page) {r : Page} → length l ≡ 0 → r ≡ put_one dash p → r ≡ put_all (hex_of l) p
+unfolding put_all hex_of
+hex_none [] p z e = e
+hex_none (b ∷ l) p z e = absurd (omega arith)
 
-pub hex-some : (l : List ℕ) (p : Page) {r : Page} → (length l ≡ 0 → ⊥) → r ≡ put_all (pairsOf l) p → r ≡ put_all (hexOf l) p
-unfolding hexOf
-hex-some [] p n e = absurd (n refl)
-hex-some (b ∷ l) p n e = e
+pub hex_some : (l : List ℕ) (p : Page) {r : Page} → (length l ≡ 0 → ⊥) → r ≡ put_all (pairs_of l) p → r ≡ put_all (hex_of l) p
+unfolding hex_of
+hex_some [] p n e = absurd (n refl)
+hex_some (b ∷ l) p n e = e

@@ -12,29 +12,29 @@ hash = 35
 abbrev pub dash : ℕ
 dash = 45
 
-abbrev pub tableName : List ℕ
-tableName = ascii "table"
+abbrev pub table_name : List ℕ
+table_name = ascii "table"
 
-abbrev pub checkName : List ℕ
-checkName = ascii "check"
+abbrev pub check_name : List ℕ
+check_name = ascii "check"
 
-abbrev pub loadName : List ℕ
-loadName = ascii "load"
+abbrev pub load_name : List ℕ
+load_name = ascii "load"
 
-abbrev pub planName : List ℕ
-planName = ascii "plan"
+abbrev pub plan_name : List ℕ
+plan_name = ascii "plan"
 
-abbrev pub liveName : List ℕ
-liveName = ascii "live"
+abbrev pub live_name : List ℕ
+live_name = ascii "live"
 
-abbrev pub stepName : List ℕ
-stepName = ascii "step"
+abbrev pub step_name : List ℕ
+step_name = ascii "step"
 
-abbrev pub readName : List ℕ
-readName = ascii "read"
+abbrev pub read_name : List ℕ
+read_name = ascii "read"
 
-abbrev pub writeName : List ℕ
-writeName = ascii "write"
+abbrev pub write_name : List ℕ
+write_name = ascii "write"
 
 abbrev pub list_name : List ℕ
 list_name = ascii "list"

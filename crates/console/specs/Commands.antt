@@ -1,27 +1,27 @@
 -- The console's language: what a line asks for. Assumes nothing.
 use Rattle.std.specs.Prelude.{ℕ, Bool, true, List, length, get_or, eqb}
 use Rattle.rules.specs.Words.{when}
-use Rattle.rules.specs.Table.{mostLent}
+use Rattle.rules.specs.Table.{most_lent}
 use Rattle.console.specs.declared.digits.Numeral.{Numeral}
 use Rattle.console.specs.declared.command.Command.{Command}
-use Rattle.console.specs.Ascii.{space, hash, tableName, checkName, loadName, planName, liveName, stepName, readName, writeName, list_name}
-use Rattle.console.specs.Words.{marksIn, firstWord, afterWord, sameBytes}
-use Rattle.console.specs.Digits.{number_of, isHex}
+use Rattle.console.specs.Ascii.{space, hash, table_name, check_name, load_name, plan_name, live_name, step_name, read_name, write_name, list_name}
+use Rattle.console.specs.Words.{marks_in, first_word, after_word, same_bytes}
+use Rattle.console.specs.Digits.{number_of, is_hex}
 
 -- any number that a call takes
-abbrev pub anyNumber : ℕ
-anyNumber = 18446744073709551615
+abbrev pub any_number : ℕ
+any_number = 18446744073709551615
 
 -- the longest buffer that the bench lends, and the most steps in one go
-abbrev pub mostPlanned : ℕ
-mostPlanned = 29000
+abbrev pub most_planned : ℕ
+most_planned = 29000
 
-abbrev pub mostSteps : ℕ
-mostSteps = 1000000
+abbrev pub most_steps : ℕ
+most_steps = 1000000
 
 -- a word of 32 bits
-abbrev pub mostWord : ℕ
-mostWord = 4294967295
+abbrev pub most_word : ℕ
+most_word = 4294967295
 
 abbrev pub plan_of : Numeral → Command
 plan_of (Numeral.Value len) = Command.Plan len
@@ -41,56 +41,56 @@ read_of (Numeral.Value task) (Numeral.Value signal) = Command.Read task signal
 read_of (Numeral.Value task) Numeral.Bad = Command.Bad
 read_of Numeral.Bad signal = Command.Bad
 
-abbrev pub writeOf : Numeral → Numeral → Numeral → Command
-writeOf (Numeral.Value task) (Numeral.Value signal) (Numeral.Value word) = Command.Write task signal word
-writeOf (Numeral.Value task) (Numeral.Value signal) Numeral.Bad = Command.Bad
-writeOf (Numeral.Value task) Numeral.Bad word = Command.Bad
-writeOf Numeral.Bad signal word = Command.Bad
+abbrev pub write_of : Numeral → Numeral → Numeral → Command
+write_of (Numeral.Value task) (Numeral.Value signal) (Numeral.Value word) = Command.Write task signal word
+write_of (Numeral.Value task) (Numeral.Value signal) Numeral.Bad = Command.Bad
+write_of (Numeral.Value task) Numeral.Bad word = Command.Bad
+write_of Numeral.Bad signal word = Command.Bad
 
 -- this command, if its bytes can be read
-unfoldable pub onHex : Command → List ℕ → Command
-onHex command word = when (isHex word) command Command.Bad
+unfoldable pub on_hex : Command → List ℕ → Command
+on_hex command word = when (is_hex word) command Command.Bad
 
 -- a line of one word
 unfoldable pub alone : List ℕ → Command
 alone name =
-    when (sameBytes name stepName) (Command.Steps 1)
-    (when (sameBytes name list_name) Command.Listing
+    when (same_bytes name step_name) (Command.Steps 1)
+    (when (same_bytes name list_name) Command.Listing
     Command.Bad)
 
 -- a name and one word
-unfoldable pub withOne : List ℕ → List ℕ → Command
-withOne name word =
-    when (sameBytes name tableName) (onHex Command.Table word)
-    (when (sameBytes name checkName) (onHex Command.Check word)
-    (when (sameBytes name loadName) (onHex Command.Load word)
-    (when (sameBytes name planName) (plan_of (number_of mostPlanned word))
-    (when (sameBytes name stepName) (steps_of (number_of mostSteps word))
+unfoldable pub with_one : List ℕ → List ℕ → Command
+with_one name word =
+    when (same_bytes name table_name) (on_hex Command.Table word)
+    (when (same_bytes name check_name) (on_hex Command.Check word)
+    (when (same_bytes name load_name) (on_hex Command.Load word)
+    (when (same_bytes name plan_name) (plan_of (number_of most_planned word))
+    (when (same_bytes name step_name) (steps_of (number_of most_steps word))
     Command.Bad))))
 
 -- a name and two words
-unfoldable pub withTwo : List ℕ → List ℕ → Command
-withTwo name words =
-    when (sameBytes name liveName) (live_of (number_of anyNumber (firstWord words)) (number_of mostLent (afterWord words)))
-    (when (sameBytes name readName) (read_of (number_of anyNumber (firstWord words)) (number_of anyNumber (afterWord words)))
+unfoldable pub with_two : List ℕ → List ℕ → Command
+with_two name words =
+    when (same_bytes name live_name) (live_of (number_of any_number (first_word words)) (number_of most_lent (after_word words)))
+    (when (same_bytes name read_name) (read_of (number_of any_number (first_word words)) (number_of any_number (after_word words)))
     Command.Bad)
 
 -- a name and three words
-unfoldable pub withThree : List ℕ → List ℕ → Command
-withThree name words =
-    when (sameBytes name writeName)
-    (writeOf (number_of anyNumber (firstWord words)) (number_of anyNumber (firstWord (afterWord words))) (number_of mostWord (afterWord (afterWord words))))
+unfoldable pub with_three : List ℕ → List ℕ → Command
+with_three name words =
+    when (same_bytes name write_name)
+    (write_of (number_of any_number (first_word words)) (number_of any_number (first_word (after_word words))) (number_of most_word (after_word (after_word words))))
     Command.Bad
 
 -- a line that asks for nothing: it is empty, or begins with `#`
-unfoldable pub isQuiet : List ℕ → Bool
-isQuiet line = when (eqb (length line) 0) true (eqb (get_or line 0 0) hash)
+unfoldable pub is_quiet : List ℕ → Bool
+is_quiet line = when (eqb (length line) 0) true (eqb (get_or line 0 0) hash)
 
 -- what any other line asks for, by its spaces
-unfoldable pub commandOf : List ℕ → Command
-commandOf line =
-    when (eqb (marksIn space line) 0) (alone line)
-    (when (eqb (marksIn space line) 1) (withOne (firstWord line) (afterWord line))
-    (when (eqb (marksIn space line) 2) (withTwo (firstWord line) (afterWord line))
-    (when (eqb (marksIn space line) 3) (withThree (firstWord line) (afterWord line))
+unfoldable pub command_of : List ℕ → Command
+command_of line =
+    when (eqb (marks_in space line) 0) (alone line)
+    (when (eqb (marks_in space line) 1) (with_one (first_word line) (after_word line))
+    (when (eqb (marks_in space line) 2) (with_two (first_word line) (after_word line))
+    (when (eqb (marks_in space line) 3) (with_three (first_word line) (after_word line))
     Command.Bad)))

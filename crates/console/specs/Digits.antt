@@ -3,28 +3,28 @@ use Rattle.std.specs.Prelude.{ℕ, ◌+◌, ◌*◌, ◌-◌, ◌%◌, Bool, tru
 use Rattle.rules.specs.Words.{when}
 use Rattle.console.specs.declared.digits.Numeral.{Numeral}
 use Rattle.console.specs.Ascii.{dash}
-use Rattle.console.specs.Words.{sameBytes}
+use Rattle.console.specs.Words.{same_bytes}
 
 unfoldable pub within : ℕ → ℕ → ℕ → Bool
 within low high b = leb low b && leb b high
 
 -- what a digit stands for, of either case; 16 for a byte that is no digit
-unfoldable pub digitOf : ℕ → ℕ
-digitOf b =
+unfoldable pub digit_of : ℕ → ℕ
+digit_of b =
     when (within 48 57 b) (b - 48)
     (when (within 65 70 b) (b - 65 + 10)
     (when (within 97 102 b) (b - 97 + 10)
     16))
 
 -- each byte is a digit below the base
-unfoldable pub allDigits : ℕ → List ℕ → Bool
-allDigits base [] = true
-allDigits base (b ∷ bs) = when (ltb (digitOf b) base) (allDigits base bs) false
+unfoldable pub all_digits : ℕ → List ℕ → Bool
+all_digits base [] = true
+all_digits base (b ∷ bs) = when (ltb (digit_of b) base) (all_digits base bs) false
 
 -- the decimal number that the digits make after those that make v
 unfoldable pub value_of : ℕ → List ℕ → ℕ
 value_of v [] = v
-value_of v (b ∷ bs) = value_of (v * 10 + digitOf b) bs
+value_of v (b ∷ bs) = value_of (v * 10 + digit_of b) bs
 
 -- a number that is no more than this
 unfoldable pub limited : ℕ → ℕ → Numeral
@@ -34,20 +34,20 @@ limited most v = when (ltb most v) Numeral.Bad (Numeral.Value v)
 unfoldable pub number_of : ℕ → List ℕ → Numeral
 number_of most word =
     when (eqb (length word) 0) Numeral.Bad
-    (when (not (allDigits 10 word)) Numeral.Bad
+    (when (not (all_digits 10 word)) Numeral.Bad
     (limited most (value_of 0 word)))
 
 -- `-`, or one pair of hex digits or more
-unfoldable pub isHex : List ℕ → Bool
-isHex word =
-    when (sameBytes word (dash ∷ [])) true
+unfoldable pub is_hex : List ℕ → Bool
+is_hex word =
+    when (same_bytes word (dash ∷ [])) true
     (when (eqb (length word) 0) false
     (when (eqb (length word % 2) 1) false
-    (allDigits 16 word)))
+    (all_digits 16 word)))
 
 -- the byte of two digits; a byte that is no digit counts as 0
 abbrev pub pair_of : ℕ → ℕ → ℕ
-pair_of high low = digitOf high % 16 * 16 + digitOf low % 16
+pair_of high low = digit_of high % 16 * 16 + digit_of low % 16
 
 -- the bytes of pairs of digits
 unfoldable pub bytes_of : List ℕ → List ℕ

@@ -13,24 +13,24 @@ abbrev pub page : List ℕ → ℕ → Page
 page bytes used = record { bytes = bytes; used = used }
 
 -- one byte more; a page that is full stays as it is
-unfoldable pub putOne : ℕ → Page → Page
-putOne b p = when (ltb p.used (length p.bytes)) (page (set p.bytes p.used b) (p.used + 1)) p
+unfoldable pub put_one : ℕ → Page → Page
+put_one b p = when (ltb p.used (length p.bytes)) (page (set p.bytes p.used b) (p.used + 1)) p
 
 -- these bytes one after the other
 unfoldable pub put_all : List ℕ → Page → Page
 put_all [] p = p
-put_all (b ∷ bs) p = put_all bs (putOne b p)
+put_all (b ∷ bs) p = put_all bs (put_one b p)
 
 -- the digit below 16: 0 to 9, then A to F
-unfoldable pub glyphOf : ℕ → ℕ
-glyphOf d = when (ltb d 10) (digit d) (55 + d)
+unfoldable pub glyph_of : ℕ → ℕ
+glyph_of d = when (ltb d 10) (digit d) (55 + d)
 
 -- two digits for each byte
-unfoldable pub pairsOf : List ℕ → List ℕ
-pairsOf [] = []
-pairsOf (b ∷ bs) = glyphOf (b / 16) ∷ glyphOf (b % 16) ∷ pairsOf bs
+unfoldable pub pairs_of : List ℕ → List ℕ
+pairs_of [] = []
+pairs_of (b ∷ bs) = glyph_of (b / 16) ∷ glyph_of (b % 16) ∷ pairs_of bs
 
 -- bytes in hex, `-` for none
-unfoldable pub hexOf : List ℕ → List ℕ
-hexOf [] = dash ∷ []
-hexOf (b ∷ bs) = pairsOf (b ∷ bs)
+unfoldable pub hex_of : List ℕ → List ℕ
+hex_of [] = dash ∷ []
+hex_of (b ∷ bs) = pairs_of (b ∷ bs)

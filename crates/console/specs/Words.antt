@@ -4,26 +4,26 @@ use Rattle.rules.specs.Words.{when}
 use Rattle.console.specs.Ascii.{space}
 
 -- how many bytes stand before the first such byte, or in all
-unfoldable pub lengthBefore : ℕ → List ℕ → ℕ
-lengthBefore mark [] = 0
-lengthBefore mark (b ∷ bs) = when (eqb b mark) 0 (suc (lengthBefore mark bs))
+unfoldable pub length_before : ℕ → List ℕ → ℕ
+length_before mark [] = 0
+length_before mark (b ∷ bs) = when (eqb b mark) 0 (suc (length_before mark bs))
 
 -- how many bytes are this one
-unfoldable pub marksIn : ℕ → List ℕ → ℕ
-marksIn mark [] = 0
-marksIn mark (b ∷ bs) = when (eqb b mark) (suc (marksIn mark bs)) (marksIn mark bs)
+unfoldable pub marks_in : ℕ → List ℕ → ℕ
+marks_in mark [] = 0
+marks_in mark (b ∷ bs) = when (eqb b mark) (suc (marks_in mark bs)) (marks_in mark bs)
 
 -- what stands before the first space
-abbrev pub firstWord : List ℕ → List ℕ
-firstWord line = take (lengthBefore space line) line
+abbrev pub first_word : List ℕ → List ℕ
+first_word line = take (length_before space line) line
 
 -- what stands after it
-abbrev pub afterWord : List ℕ → List ℕ
-afterWord line = drop (lengthBefore space line + 1) line
+abbrev pub after_word : List ℕ → List ℕ
+after_word line = drop (length_before space line + 1) line
 
 -- the same bytes in the same order
-unfoldable pub sameBytes : List ℕ → List ℕ → Bool
-sameBytes [] [] = true
-sameBytes [] (b ∷ bs) = false
-sameBytes (a ∷ more) [] = false
-sameBytes (a ∷ more) (b ∷ bs) = when (eqb a b) (sameBytes more bs) false
+unfoldable pub same_bytes : List ℕ → List ℕ → Bool
+same_bytes [] [] = true
+same_bytes [] (b ∷ bs) = false
+same_bytes (a ∷ more) [] = false
+same_bytes (a ∷ more) (b ∷ bs) = when (eqb a b) (same_bytes more bs) false

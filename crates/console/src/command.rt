@@ -1,6 +1,6 @@
 // What a line asks for.
 ghost use Rattle.std.specs.Prelude.{◌≡◌};
-ghost use Rattle.console.specs.Commands.{plan_of, steps_of, live_of, read_of, writeOf, onHex, alone, withOne, withTwo, withThree, isQuiet, commandOf};
+ghost use Rattle.console.specs.Commands.{plan_of, steps_of, live_of, read_of, write_of, on_hex, alone, with_one, with_two, with_three, is_quiet, command_of};
 
 use crate::digits::{Numeral, is_hex, number};
 use crate::words::{SPACE, after_word, first_word, marks, same};
@@ -99,7 +99,7 @@ fn read(task: Numeral, signal: Numeral) -> Command
 }
 
 fn write(task: Numeral, signal: Numeral, word: Numeral) -> Command
-    ensures { result ≡ writeOf task signal word }
+    ensures { result ≡ write_of task signal word }
 {
     let Numeral::Value(t) = task else {
         return Command::Bad;
@@ -115,7 +115,7 @@ fn write(task: Numeral, signal: Numeral, word: Numeral) -> Command
 
 // This command, if its bytes can be read.
 fn on_hex(command: Command, word: &[u8]) -> Command
-    ensures { result ≡ onHex command word.now }
+    ensures { result ≡ on_hex command word.now }
 {
     if is_hex(word) {
         return command;
@@ -136,7 +136,7 @@ fn of_name(name: &[u8]) -> Command
 }
 
 fn with_one(name: &[u8], word: &[u8]) -> Command
-    ensures { result ≡ withOne name.now word.now }
+    ensures { result ≡ with_one name.now word.now }
 {
     if same(name, &TABLE) {
         return on_hex(Command::Table, word);
@@ -157,7 +157,7 @@ fn with_one(name: &[u8], word: &[u8]) -> Command
 }
 
 fn with_two(name: &[u8], words: &[u8]) -> Command
-    ensures { result ≡ withTwo name.now words.now }
+    ensures { result ≡ with_two name.now words.now }
 {
     let first = first_word(words);
     let second = after_word(words);
@@ -171,7 +171,7 @@ fn with_two(name: &[u8], words: &[u8]) -> Command
 }
 
 fn with_three(name: &[u8], words: &[u8]) -> Command
-    ensures { result ≡ withThree name.now words.now }
+    ensures { result ≡ with_three name.now words.now }
 {
     let first = first_word(words);
     let rest = after_word(words);
@@ -189,7 +189,7 @@ fn with_three(name: &[u8], words: &[u8]) -> Command
 
 // An empty line and a comment ask for nothing.
 pub fn is_quiet(line: &[u8]) -> bool
-    ensures { result ≡ isQuiet line.now }
+    ensures { result ≡ is_quiet line.now }
 {
     if line.len() == 0 {
         return true;
@@ -199,7 +199,7 @@ pub fn is_quiet(line: &[u8]) -> bool
 
 // What any other line asks for.
 pub fn asked(line: &[u8]) -> Command
-    ensures { result ≡ commandOf line.now }
+    ensures { result ≡ command_of line.now }
 {
     let spaces = marks(line, SPACE);
     if spaces == 0 {

@@ -1,7 +1,7 @@
 // Numbers and bytes as they are read.
 ghost use Rattle.std.specs.Prelude.{◌≡◌, ◌≤◌};
 ghost use Rattle.console.specs.Page.{page, put_all};
-ghost use Rattle.console.specs.Digits.{within, digitOf, allDigits, value_of, limited, number_of, isHex, pair_of, bytes_of};
+ghost use Rattle.console.specs.Digits.{within, digit_of, all_digits, value_of, limited, number_of, is_hex, pair_of, bytes_of};
 
 use crate::bases::{SIXTEEN, TEN, WIDE_TEN};
 use crate::page::{DASH, put};
@@ -29,7 +29,7 @@ fn is_within(low: u8, high: u8, b: u8) -> bool
 
 // What a digit stands for, of either case; 16 for a byte that is no digit.
 fn digit(b: u8) -> u8
-    ensures { (result ≡ digitOf b) × (result ≤ 16) }
+    ensures { (result ≡ digit_of b) × (result ≤ 16) }
 {
     if is_within(b'0', b'9', b) {
         return b - b'0';
@@ -44,7 +44,7 @@ fn digit(b: u8) -> u8
 }
 
 fn all_digits(word: &[u8], base: u8) -> bool
-    ensures { result ≡ allDigits base word.now }
+    ensures { result ≡ all_digits base word.now }
 {
     let mut i = 0;
     while i < word.len() {
@@ -92,7 +92,7 @@ pub fn number(word: &[u8], most: u64) -> Numeral
 
 // `-`, or one pair of hex digits or more.
 pub fn is_hex(word: &[u8]) -> bool
-    ensures { result ≡ isHex word.now }
+    ensures { result ≡ is_hex word.now }
 {
     if same(word, &NO_BYTES) {
         return true;

@@ -1,8 +1,8 @@
 // The writing side: text appended to a lent buffer, of which the first `at` bytes are in use. Each function gives back how many are in use then.
 // A full buffer takes no more, so that no caller has to show that there is room.
 ghost use Rattle.std.specs.Prelude.{◌≡◌, ◌<◌, ◌/◌, ◌%◌, take};
-ghost use Rattle.rules.specs.Listing.{figures, decimalOf};
-ghost use Rattle.console.specs.Page.{page, putOne, put_all, glyphOf, pairsOf, hexOf};
+ghost use Rattle.rules.specs.Listing.{figures, decimal_of};
+ghost use Rattle.console.specs.Page.{page, put_one, put_all, glyph_of, pairs_of, hex_of};
 
 use crate::bases::{SIXTEEN, TEN, WIDE_TEN};
 
@@ -18,7 +18,7 @@ pub const DASH: u8 = b'-';
 const MOST_FIGURES: usize = 20;
 
 pub fn put(out: &mut [u8], at: usize, b: u8) -> usize
-    ensures { page out.new result ≡ putOne b (page out.old at) }
+    ensures { page out.new result ≡ put_one b (page out.old at) }
 {
     if at < out.len() {
         out[at] = b;
@@ -42,7 +42,7 @@ pub fn put_all(out: &mut [u8], at: usize, bytes: &[u8]) -> usize
 // The digit `d` as a character.
 fn glyph(d: u8) -> u8
     requires { d < 16 }
-    ensures { result ≡ glyphOf d }
+    ensures { result ≡ glyph_of d }
 {
     if d < TEN {
         return ZERO + d;
@@ -65,21 +65,21 @@ fn put_figures(out: &mut [u8], at: usize, n: u64, most: usize) -> usize
 }
 
 pub fn put_decimal(out: &mut [u8], at: usize, n: u64) -> usize
-    ensures { page out.new result ≡ put_all (decimalOf n) (page out.old at) }
+    ensures { page out.new result ≡ put_all (decimal_of n) (page out.old at) }
 {
     put_figures(out, at, n, MOST_FIGURES)
 }
 
 // Both digits of a byte.
 fn put_pair(out: &mut [u8], at: usize, b: u8) -> usize
-    ensures { page out.new result ≡ putOne (glyphOf (b % 16)) (putOne (glyphOf (b / 16)) (page out.old at)) }
+    ensures { page out.new result ≡ put_one (glyph_of (b % 16)) (put_one (glyph_of (b / 16)) (page out.old at)) }
 {
     let end = put(out, at, glyph(b / SIXTEEN));
     put(out, end, glyph(b % SIXTEEN))
 }
 
 fn put_pairs(out: &mut [u8], at: usize, bytes: &[u8]) -> usize
-    ensures { page out.new result ≡ put_all (pairsOf bytes.now) (page out.old at) }
+    ensures { page out.new result ≡ put_all (pairs_of bytes.now) (page out.old at) }
 {
     let mut end = at;
     let mut i = 0;
@@ -92,7 +92,7 @@ fn put_pairs(out: &mut [u8], at: usize, bytes: &[u8]) -> usize
 
 // Bytes in hex, `-` for none.
 pub fn put_hex(out: &mut [u8], at: usize, bytes: &[u8]) -> usize
-    ensures { page out.new result ≡ put_all (hexOf bytes.now) (page out.old at) }
+    ensures { page out.new result ≡ put_all (hex_of bytes.now) (page out.old at) }
 {
     if bytes.len() == 0 {
         return put(out, at, DASH);

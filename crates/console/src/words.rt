@@ -1,12 +1,12 @@
 // The words of a line, separated by one space.
 ghost use Rattle.std.specs.Prelude.{◌≡◌, ◌≤◌, length};
-ghost use Rattle.console.specs.Words.{lengthBefore, marksIn, firstWord, afterWord, sameBytes};
+ghost use Rattle.console.specs.Words.{length_before, marks_in, first_word, after_word, same_bytes};
 
 pub const SPACE: u8 = b' ';
 
 // How many bytes stand before the first `mark`, or in all.
 pub fn before(bytes: &[u8], mark: u8) -> usize
-    ensures { (result ≡ lengthBefore mark bytes.now) × (result ≤ length bytes.now) }
+    ensures { (result ≡ length_before mark bytes.now) × (result ≤ length bytes.now) }
 {
     let mut i = 0;
     while i < bytes.len() {
@@ -20,7 +20,7 @@ pub fn before(bytes: &[u8], mark: u8) -> usize
 
 // How many bytes are `mark`.
 pub fn marks(bytes: &[u8], mark: u8) -> usize
-    ensures { result ≡ marksIn mark bytes.now }
+    ensures { result ≡ marks_in mark bytes.now }
 {
     let mut found = 0;
     let mut i = 0;
@@ -35,7 +35,7 @@ pub fn marks(bytes: &[u8], mark: u8) -> usize
 
 // What stands before the first space.
 pub fn first_word(line: &[u8]) -> &[u8]
-    ensures { result.now ≡ firstWord line.now }
+    ensures { result.now ≡ first_word line.now }
 {
     let end = before(line, SPACE);
     &line[..end]
@@ -43,7 +43,7 @@ pub fn first_word(line: &[u8]) -> &[u8]
 
 // What stands after the first space.
 pub fn after_word(line: &[u8]) -> &[u8]
-    ensures { result.now ≡ afterWord line.now }
+    ensures { result.now ≡ after_word line.now }
 {
     let end = before(line, SPACE);
     if line.len() <= end {
@@ -54,7 +54,7 @@ pub fn after_word(line: &[u8]) -> &[u8]
 }
 
 pub fn same(a: &[u8], b: &[u8]) -> bool
-    ensures { result ≡ sameBytes a.now b.now }
+    ensures { result ≡ same_bytes a.now b.now }
 {
     if a.len() != b.len() {
         return false;

@@ -9,90 +9,90 @@ use native.Mathlib.Omega.{arith}
 use lib.ListN.{length, get_or, set, take, length-take, get_or-append}
 use lib.Seq.{take-suc, take-length}
 use Rattle.rules.specs.Windows.{Table, opens, closes, instances, hyper}
-use Rattle.rules.specs.Table.{mostTasks, mostElements, longest, Fits}
+use Rattle.rules.specs.Table.{most_tasks, most_elements, longest, Fits}
 use Rattle.rules.specs.Schedule.{most}
-use Rattle.rules.specs.Reading.{Grid, task_of, writesIn, readsIn, noSignals}
+use Rattle.rules.specs.Reading.{Grid, task_of, writes_in, reads_in, no_signals}
 use Rattle.rules.specs.declared.Tasks.{Tasks}
-use Rattle.theory.specs.Sweep.{taskIn, tickIn, isOpening, events, through, opened, closed, acted}
-use Rattle.theory.specs.Chosen.{Choice, freeElement, sent, taken, followed, reads, takes, publishes, choose, unchosen, chosen}
+use Rattle.theory.specs.Sweep.{task_in, tick_in, is_opening, events, through, opened, closed, acted}
+use Rattle.theory.specs.Chosen.{Choice, free_element, sent, taken, followed, reads, takes, publishes, choose, unchosen, chosen}
 use Rattle.theory.proofs.Tests.{split, holds}
-use Rattle.theory.proofs.Lists.{all-at}
-use Rattle.theory.proofs.Time.{instance-is, closes-le}
-use Rattle.theory.proofs.Untils.{first-within}
-use Rattle.theory.proofs.Linear.{none-held}
-use Rattle.theory.proofs.Swept.{opening-digits, closing-digits, through-append}
-use Rattle.theory.proofs.Events.{IsEvent, events-up, events-all, few-events}
-use Rattle.theory.proofs.Chosen.{first_next, writer-lt, reader-lt}
-use Rattle.events.specs.Order.{tasksTable, mostEvents}
+use Rattle.theory.proofs.Lists.{all_at}
+use Rattle.theory.proofs.Time.{instance_is, closes_le}
+use Rattle.theory.proofs.Untils.{first_within}
+use Rattle.theory.proofs.Linear.{nothing_held}
+use Rattle.theory.proofs.Swept.{opening_digits, closing_digits, through_append}
+use Rattle.theory.proofs.Events.{IsEvent, events_up, events_all, few_events}
+use Rattle.theory.proofs.Chosen.{first_next, writer_lt, reader_lt}
+use Rattle.events.specs.Order.{tasks_table, most_events}
 use Rattle.events.specs.declared.Events.{Events}
-use Rattle.events.proofs.Alone.{events-alone}
+use Rattle.events.proofs.Alone.{events_alone}
 use Rattle.elements.specs.declared.pass.Access.{Access}
 use Rattle.elements.specs.declared.pass.Numbers.{Numbers}
-use Rattle.elements.specs.Pass.{Turns, turn_of, passTable, Ready}
+use Rattle.elements.specs.Pass.{Turns, turn_of, pass_table, Ready}
 
 -- ---- elements stay elements
 
-set-any : (P : ℕ → Type 0) (l : List ℕ) (k e j : ℕ) → P e → P (get_or l j 0) → P (get_or (set l k e) j 0)
-set-any P [] k e j a b = b
-set-any P (x ∷ xs) zero e zero a b = a
-set-any P (x ∷ xs) zero e (suc j) a b = b
-set-any P (x ∷ xs) (suc k) e zero a b = b
-set-any P (x ∷ xs) (suc k) e (suc j) a b = set-any P xs k e j a b
+set_any : (P : ℕ → Type 0) (l : List ℕ) (k e j : ℕ) → P e → P (get_or l j 0) → P (get_or (set l k e) j 0)
+set_any P [] k e j a b = b
+set_any P (x ∷ xs) zero e zero a b = a
+set_any P (x ∷ xs) zero e (suc j) a b = b
+set_any P (x ∷ xs) (suc k) e zero a b = b
+set_any P (x ∷ xs) (suc k) e (suc j) a b = set_any P xs k e j a b
 
 pub record Low (c : Choice) : Type 0 where
-  pub current : c.current < mostElements
-  pub own : (k : ℕ) → get_or c.own k 0 < mostElements
-  pub count : c.count ≤ mostElements
+  pub current : c.current < most_elements
+  pub own : (k : ℕ) → get_or c.own k 0 < most_elements
+  pub count : c.count ≤ most_elements
 
-free-low : (tab : Table) (held : List ℕ) (t : ℕ) → freeElement tab held t < mostElements
-free-low tab held t = omega (arith, first-within (take (most tab - 1) held) t, length-take (most tab - 1) held)
+free_low : (tab : Table) (held : List ℕ) (t : ℕ) → free_element tab held t < most_elements
+free_low tab held t = omega (arith, first_within (take (most tab - 1) held) t, length-take (most tab - 1) held)
 
-low-sent : (c : Choice) (u b : ℕ) → Low c → Low (sent c u b)
-low-sent c u b L = record { current = L.current; own = L.own; count = L.count }
+low_sent : (c : Choice) (u b : ℕ) → Low c → Low (sent c u b)
+low_sent c u b L = record { current = L.current; own = L.own; count = L.count }
 
-low-taken : (c : Choice) (u k e : ℕ) → e < mostElements → Low c → Low (taken c u k e)
-low-taken c u k e h L = record { current = L.current; own = λ j. set-any (λ x. x < mostElements) c.own k e j h (L.own j); count = omega (arith, L.count) }
+low_taken : (c : Choice) (u k e : ℕ) → e < most_elements → Low c → Low (taken c u k e)
+low_taken c u k e h L = record { current = L.current; own = λ j. set_any (λ x. x < most_elements) c.own k e j h (L.own j); count = omega (arith, L.count) }
 
-low-followed : (c : Choice) (k b : ℕ) → Low c → Low (followed c k b)
-low-followed c k b L = record { current = L.own k; own = L.own; count = L.count }
+low_followed : (c : Choice) (k b : ℕ) → Low c → Low (followed c k b)
+low_followed c k b L = record { current = L.own k; own = L.own; count = L.count }
 
-low-if : (b : Bool) (c d : Choice) → Low c → Low d → Low (cond b c d)
-low-if true c d L M = L
-low-if false c d L M = M
+low_if : (b : Bool) (c d : Choice) → Low c → Low d → Low (cond b c d)
+low_if true c d L M = L
+low_if false c d L M = M
 
-low-choose : (tab : Table) (s : ℕ) (c : Choice) (n : ℕ) → Low c → Low (choose tab s c n)
+low_choose : (tab : Table) (s : ℕ) (c : Choice) (n : ℕ) → Low c → Low (choose tab s c n)
 unfolding acted
-low-choose tab s c n L =
-    let t = tickIn n in
-    let k = taskIn n in
+low_choose tab s c n L =
+    let t = tick_in n in
+    let k = task_in n in
     let d = cond (tab.reads s k) (reads tab s c k t) c in
-    let M : Low d = low-if (tab.reads s k) (reads tab s c k t) c (low-sent c _ _ L) L in
-    low-if (isOpening n) (opened tab s (reads tab s) (takes tab s) c k t) (closed tab s (publishes tab s) c k (t - 1))
-    (low-if (tab.writes s k) (takes tab s d k t) d (low-taken d _ k (freeElement tab d.held t) (free-low tab d.held t) M) M)
-    (low-if (tab.writes s k) (publishes tab s c k (t - 1)) c (low-followed c k _ L) L)
+    let M : Low d = low_if (tab.reads s k) (reads tab s c k t) c (low_sent c _ _ L) L in
+    low_if (is_opening n) (opened tab s (reads tab s) (takes tab s) c k t) (closed tab s (publishes tab s) c k (t - 1))
+    (low_if (tab.writes s k) (takes tab s d k t) d (low_taken d _ k (free_element tab d.held t) (free_low tab d.held t) M) M)
+    (low_if (tab.writes s k) (publishes tab s c k (t - 1)) c (low_followed c k _ L) L)
 
-low-through : (tab : Table) (s : ℕ) (c : Choice) (ns : List ℕ) → Low c → Low (through (choose tab s) c ns)
+low_through : (tab : Table) (s : ℕ) (c : Choice) (ns : List ℕ) → Low c → Low (through (choose tab s) c ns)
 unfolding through
-low-through tab s c [] L = L
-low-through tab s c (n ∷ ns) L = low-through tab s (choose tab s c n) ns (low-choose tab s c n L)
+low_through tab s c [] L = L
+low_through tab s c (n ∷ ns) L = low_through tab s (choose tab s c n) ns (low_choose tab s c n L)
 
-low-unchosen : (tab : Table) (s : ℕ) (uses : List ℕ) → Low (unchosen tab s uses)
-low-unchosen tab s uses = record { current = omega arith; own = λ k. rw (none-held mostTasks k) (omega arith); count = omega arith }
+low_unchosen : (tab : Table) (s : ℕ) (uses : List ℕ) → Low (unchosen tab s uses)
+low_unchosen tab s uses = record { current = omega arith; own = λ k. rw (nothing_held most_tasks k) (omega arith); count = omega arith }
 
 -- the count of a signal is small
-pub few-elements : (tab : Table) (s : ℕ) (uses : List ℕ) → (chosen tab s uses).count ≤ mostElements
+pub few_elements : (tab : Table) (s : ℕ) (uses : List ℕ) → (chosen tab s uses).count ≤ most_elements
 unfolding chosen
-few-elements tab s uses = (low-through tab s (unchosen tab s uses) (events tab) (low-unchosen tab s uses)).count
+few_elements tab s uses = (low_through tab s (unchosen tab s uses) (events tab) (low_unchosen tab s uses)).count
 
 -- ---- one after the other
 
-through-turn : {A : Type 0} (f : A → ℕ → A) (a : A) (xs : List ℕ) (n : ℕ) → n < length xs → through f a (take (n + 1) xs) ≡ f (through f a (take n xs)) (get_or xs n 0)
+through_turn : {A : Type 0} (f : A → ℕ → A) (a : A) (xs : List ℕ) (n : ℕ) → n < length xs → through f a (take (n + 1) xs) ≡ f (through f a (take n xs)) (get_or xs n 0)
 unfolding through
-through-turn f a xs n h = rw (add-one n, take-suc xs n 0 h) (through-append f a (take n xs) (get_or xs n 0 ∷ []))
+through_turn f a xs n h = rw (add-one n, take-suc xs n 0 h) (through_append f a (take n xs) (get_or xs n 0 ∷ []))
 
 module _ (tasks : Tasks) (grid : Grid) (s : ℕ) where
   abbrev tab : Table
-  tab = passTable tasks grid
+  tab = pass_table tasks grid
 
   -- what the code knows after n events
   abbrev pub After : List ℕ → ℕ → Choice → Type 0
@@ -102,98 +102,98 @@ module _ (tasks : Tasks) (grid : Grid) (s : ℕ) where
   unfolding through
   after_none uses = refl
 
-  pub after-all : (uses : List ℕ) (n : ℕ) (c : Choice) → n ≡ length (events tab) → After uses n c → c ≡ chosen tab s uses
+  pub after_all : (uses : List ℕ) (n : ℕ) (c : Choice) → n ≡ length (events tab) → After uses n c → c ≡ chosen tab s uses
   unfolding chosen
-  after-all uses n c h e = e ∙ ap (through (choose tab s) (unchosen tab s uses)) (ap (λ n. take n (events tab)) h ∙ take-length (events tab))
+  after_all uses n c h e = e ∙ ap (through (choose tab s) (unchosen tab s uses)) (ap (λ n. take n (events tab)) h ∙ take-length (events tab))
 
-  pub after-low : (uses : List ℕ) (n : ℕ) (c : Choice) → After uses n c → c.current < mostElements
-  after-low uses n c e = (subst Low (sym e) (low-through tab s (unchosen tab s uses) (take n (events tab)) (low-unchosen tab s uses))).current
+  pub after_low : (uses : List ℕ) (n : ℕ) (c : Choice) → After uses n c → c.current < most_elements
+  after_low uses n c e = (subst Low (sym e) (low_through tab s (unchosen tab s uses) (take n (events tab)) (low_unchosen tab s uses))).current
 
   module _ (list : List ℕ) (count : ℕ) (numbers : Numbers) (R : Ready tasks grid s list count numbers) where
-    abbrev F : Fits (tasksTable tasks)
+    abbrev F : Fits (tasks_table tasks)
     F = R.fits
 
     pub counted : count ≡ length (events tab)
-    counted = ap (λ (x : Events). x.count) R.events ∙ ap length (sym (events-alone tasks noSignals grid))
+    counted = ap (λ (x : Events). x.count) R.events ∙ ap length (sym (events_alone tasks no_signals grid))
 
-    pub few : count ≤ mostEvents
-    few = omega (arith, ap (λ (x : Events). x.count) R.events, few-events (tasksTable tasks) F mostTasks (mostTasks + hyper (tasksTable tasks) * (2 * mostTasks)) (events (tasksTable tasks)) (events-up (tasksTable tasks) F) (events-all (tasksTable tasks) F), F.few-instances)
+    pub few : count ≤ most_events
+    few = omega (arith, ap (λ (x : Events). x.count) R.events, few_events (tasks_table tasks) F most_tasks (most_tasks + hyper (tasks_table tasks) * (2 * most_tasks)) (events (tasks_table tasks)) (events_up (tasks_table tasks) F) (events_all (tasks_table tasks) F), F.few_instances)
 
     module _ (n : ℕ) (h : n < count) where
       -- the event that the code reads
       abbrev event : ℕ
       event = get_or list n 0
 
-      same-event : event ≡ get_or (events (tasksTable tasks)) n 0
-      same-event = ap (λ (x : Events). get_or x.list n 0) R.events ∙ get_or-append (events (tasksTable tasks)) _ 0 n (omega (arith, ap (λ (x : Events). x.count) R.events))
+      same_event : event ≡ get_or (events (tasks_table tasks)) n 0
+      same_event = ap (λ (x : Events). get_or x.list n 0) R.events ∙ get_or-append (events (tasks_table tasks)) _ 0 n (omega (arith, ap (λ (x : Events). x.count) R.events))
 
-      is-event : IsEvent (tasksTable tasks) event
-      is-event = rw same-event (all-at (IsEvent (tasksTable tasks)) 0 (events (tasksTable tasks)) (events-all (tasksTable tasks) F) n (omega (arith, ap (λ (x : Events). x.count) R.events)))
+      is_event : IsEvent (tasks_table tasks) event
+      is_event = rw same_event (all_at (IsEvent (tasks_table tasks)) 0 (events (tasks_table tasks)) (events_all (tasks_table tasks) F) n (omega (arith, ap (λ (x : Events). x.count) R.events)))
 
       -- the rights and first uses of its task
       abbrev access : Bool → Bool → Access
       access r w = record {
         reads = r;
         writes = w;
-        reader = get_or numbers.readers (taskIn event) 0;
-        writer = get_or numbers.writers (taskIn event) 0;
+        reader = get_or numbers.readers (task_in event) 0;
+        writer = get_or numbers.writers (task_in event) 0;
       }
 
-      pub one-task : taskIn event < tasks.count
-      one-task = go is-event
+      pub one_task : task_in event < tasks.count
+      one_task = go is_event
         where
-          go : IsEvent (tasksTable tasks) event → taskIn event < tasks.count
-          go (k, i, a, b, inl e) = omega (arith, ap taskIn e, (opening-digits (opens (tasksTable tasks) k i) k (omega (arith, F.few-tasks))).1)
-          go (k, i, a, b, inr e) = omega (arith, ap taskIn e, (closing-digits (closes (tasksTable tasks) k i) k (omega (arith, F.few-tasks))).1)
+          go : IsEvent (tasks_table tasks) event → task_in event < tasks.count
+          go (k, i, a, b, inl e) = omega (arith, ap task_in e, (opening_digits (opens (tasks_table tasks) k i) k (omega (arith, F.few_tasks))).1)
+          go (k, i, a, b, inr e) = omega (arith, ap task_in e, (closing_digits (closes (tasks_table tasks) k i) k (omega (arith, F.few_tasks))).1)
 
       -- an opening is that of an instance of the hyper-period
-      opens-within : isOpening event ≡ true → (tickIn event / tab.period (taskIn event) < instances tab (taskIn event)) × (tickIn event ≤ longest)
+      opens_within : is_opening event ≡ true → (tick_in event / tab.period (task_in event) < instances tab (task_in event)) × (tick_in event ≤ longest)
       unfolding hyper
-      opens-within o = go is-event
+      opens_within o = go is_event
         where
-          go : IsEvent (tasksTable tasks) event → (tickIn event / tab.period (taskIn event) < instances tab (taskIn event)) × (tickIn event ≤ longest)
+          go : IsEvent (tasks_table tasks) event → (tick_in event / tab.period (task_in event) < instances tab (task_in event)) × (tick_in event ≤ longest)
           go (k, i, a, b, inl e) =
-              let d = opening-digits (opens (tasksTable tasks) k i) k (omega (arith, F.few-tasks)) in
-              let t : tickIn event ≡ opens (tasksTable tasks) k i = ap tickIn e ∙ d.2 in
-              let m : taskIn event ≡ k = ap taskIn e ∙ d.1 in
-              let j = instance-is (tasksTable tasks) F k i (opens (tasksTable tasks) k i) a (omega arith) (omega (arith, F.window k a)) in (
+              let d = opening_digits (opens (tasks_table tasks) k i) k (omega (arith, F.few_tasks)) in
+              let t : tick_in event ≡ opens (tasks_table tasks) k i = ap tick_in e ∙ d.2 in
+              let m : task_in event ≡ k = ap task_in e ∙ d.1 in
+              let j = instance_is (tasks_table tasks) F k i (opens (tasks_table tasks) k i) a (omega arith) (omega (arith, F.window k a)) in (
                 rw (t, m, j) b,
-                omega (arith, F.window k a, closes-le (tasksTable tasks) F k i a b, F.hyper-short),
+                omega (arith, F.window k a, closes_le (tasks_table tasks) F k i a b, F.hyper_short),
               )
-          go (k, i, a, b, inr e) = absurd (true≢false (sym o ∙ ap isOpening e ∙ (closing-digits (closes (tasksTable tasks) k i) k (omega (arith, F.few-tasks))).0))
+          go (k, i, a, b, inr e) = absurd (true≢false (sym o ∙ ap is_opening e ∙ (closing_digits (closes (tasks_table tasks) k i) k (omega (arith, F.few_tasks))).0))
 
-      pub turns : (r w : Bool) → r ≡ readsIn grid s (taskIn event) → w ≡ writesIn grid s (taskIn event) → Turns (task_of tasks (taskIn event)) (access r w) event
+      pub turns : (r w : Bool) → r ≡ reads_in grid s (task_in event) → w ≡ writes_in grid s (task_in event) → Turns (task_of tasks (task_in event)) (access r w) event
       turns x z a b o =
-          let w = opens-within o in
-          let m = one-task in
+          let w = opens_within o in
+          let m = one_task in
           let f = first_next tab s in
           record {
-            one = omega (arith, F.few-tasks);
+            one = omega (arith, F.few_tasks);
             tick = w.1;
-            period = omega (arith, F.window (taskIn event) m, F.within (taskIn event) m);
-            end = omega (arith, F.within (taskIn event) m, F.short (taskIn event) m);
-            reader = λ r. omega (arith, R.readers (taskIn event) m, reader-lt tab s (taskIn event) (tickIn event / tab.period (taskIn event)) m (holds (sym a ∙ r)) w.0, R.room);
-            writer = λ r. omega (arith, R.writers (taskIn event) m, writer-lt tab s (taskIn event) (tickIn event / tab.period (taskIn event)) m (holds (sym b ∙ r)) w.0, R.room);
+            period = omega (arith, F.window (task_in event) m, F.within (task_in event) m);
+            end = omega (arith, F.within (task_in event) m, F.short (task_in event) m);
+            reader = λ r. omega (arith, R.readers (task_in event) m, reader_lt tab s (task_in event) (tick_in event / tab.period (task_in event)) m (holds (sym a ∙ r)) w.0, R.room);
+            writer = λ r. omega (arith, R.writers (task_in event) m, writer_lt tab s (task_in event) (tick_in event / tab.period (task_in event)) m (holds (sym b ∙ r)) w.0, R.room);
           }
 
       -- no window closes at tick 0
-      closes-later : isOpening event ≡ false → suc (tickIn event - 1) ≡ tickIn event
-      closes-later o = go is-event
+      closes_later : is_opening event ≡ false → suc (tick_in event - 1) ≡ tick_in event
+      closes_later o = go is_event
         where
-          go : IsEvent (tasksTable tasks) event → suc (tickIn event - 1) ≡ tickIn event
-          go (k, i, a, b, inl e) = absurd (true≢false (sym (opening-digits (opens (tasksTable tasks) k i) k (omega (arith, F.few-tasks))).0 ∙ ap isOpening (sym e) ∙ o))
+          go : IsEvent (tasks_table tasks) event → suc (tick_in event - 1) ≡ tick_in event
+          go (k, i, a, b, inl e) = absurd (true≢false (sym (opening_digits (opens (tasks_table tasks) k i) k (omega (arith, F.few_tasks))).0 ∙ ap is_opening (sym e) ∙ o))
           go (k, i, a, b, inr e) =
-              let t : tickIn event ≡ closes (tasksTable tasks) k i = ap tickIn e ∙ (closing-digits (closes (tasksTable tasks) k i) k (omega (arith, F.few-tasks))).2 in
+              let t : tick_in event ≡ closes (tasks_table tasks) k i = ap tick_in e ∙ (closing_digits (closes (tasks_table tasks) k i) k (omega (arith, F.few_tasks))).2 in
               omega (arith, F.window k a)
 
-      turn_is : (c : Choice) → turn_of (task_of tasks (taskIn event)) (access (readsIn grid s (taskIn event)) (writesIn grid s (taskIn event))) event c ≡ choose tab s c event
+      turn_is : (c : Choice) → turn_of (task_of tasks (task_in event)) (access (reads_in grid s (task_in event)) (writes_in grid s (task_in event))) event c ≡ choose tab s c event
       unfolding turn_of acted
       turn_is c =
-          rw (R.readers (taskIn event) one-task, R.writers (taskIn event) one-task)
-          (split (isOpening event) (λ q. rw q) (λ q. rw (q, closes-later q)))
+          rw (R.readers (task_in event) one_task, R.writers (task_in event) one_task)
+          (split (is_opening event) (λ q. rw q) (λ q. rw (q, closes_later q)))
 
-      pub after_turn : (uses : List ℕ) (c d : Choice) (r w : Bool) → r ≡ readsIn grid s (taskIn event) → w ≡ writesIn grid s (taskIn event) → After uses n c
-          → d ≡ turn_of (task_of tasks (taskIn event)) (access r w) event c → After uses (n + 1) d
+      pub after_turn : (uses : List ℕ) (c d : Choice) (r w : Bool) → r ≡ reads_in grid s (task_in event) → w ≡ writes_in grid s (task_in event) → After uses n c
+          → d ≡ turn_of (task_of tasks (task_in event)) (access r w) event c → After uses (n + 1) d
       after_turn uses c d r w x z a e =
-          e ∙ ap (λ r. turn_of (task_of tasks (taskIn event)) (access r w) event c) x ∙ ap (λ w. turn_of (task_of tasks (taskIn event)) (access (readsIn grid s (taskIn event)) w) event c) z ∙ turn_is c ∙ ap (choose tab s c) (same-event ∙ ap (λ xs. get_or xs n 0) (sym (events-alone tasks noSignals grid))) ∙ ap (λ c. choose tab s c (get_or (events tab) n 0)) a
-          ∙ sym (through-turn (choose tab s) (unchosen tab s uses) (events tab) n (omega (arith, counted)))
+          e ∙ ap (λ r. turn_of (task_of tasks (task_in event)) (access r w) event c) x ∙ ap (λ w. turn_of (task_of tasks (task_in event)) (access (reads_in grid s (task_in event)) w) event c) z ∙ turn_is c ∙ ap (choose tab s c) (same_event ∙ ap (λ xs. get_or xs n 0) (sym (events_alone tasks no_signals grid))) ∙ ap (λ c. choose tab s c (get_or (events tab) n 0)) a
+          ∙ sym (through_turn (choose tab s) (unchosen tab s uses) (events tab) n (omega (arith, counted)))

@@ -1,9 +1,9 @@
 // The pass over the openings and closings of a hyper-period.
 ghost use Rattle.std.specs.Prelude.{List, ◌≡◌, ℕ, ◌<◌};
-ghost use Rattle.rules.specs.Table.{mostElements};
+ghost use Rattle.rules.specs.Table.{most_elements};
 ghost use Rattle.theory.specs.Chosen.{chosen};
 ghost use Rattle.elements.specs.Steps.{choice_of};
-ghost use Rattle.elements.specs.Pass.{Opens, readsBy, writesBy, Turns, turn_of, passTable, Ready};
+ghost use Rattle.elements.specs.Pass.{Opens, reads_by, writes_by, Turns, turn_of, pass_table, Ready};
 
 use crate::steps::{publish, send, take};
 use crate::{NEVER, Standing};
@@ -36,8 +36,8 @@ fn reader_opens(
     uses: &mut [u8; MOST_USES],
     state: Standing,
 ) -> Standing
-    requires { Opens task access k tick × (state.element < mostElements) }
-    ensures { (held own : List ℕ) → choice_of held own uses.new result ≡ readsBy task access tick (choice_of held own uses.old state) }
+    requires { Opens task access k tick × (state.element < most_elements) }
+    ensures { (held own : List ℕ) → choice_of held own uses.new result ≡ reads_by task access tick (choice_of held own uses.old state) }
 {
     if access.reads {
         let i = tick / task.period;
@@ -63,7 +63,7 @@ fn writer_opens(
     state: Standing,
 ) -> Standing
     requires { Opens task access k tick }
-    ensures { choice_of held.new own.new uses.new result ≡ writesBy task access k tick (choice_of held.old own.old uses.old state) }
+    ensures { choice_of held.new own.new uses.new result ≡ writes_by task access k tick (choice_of held.old own.old uses.old state) }
 {
     if access.writes {
         let i = tick / task.period;
@@ -82,7 +82,7 @@ fn turn(
     uses: &mut [u8; MOST_USES],
     state: Standing,
 ) -> Standing
-    requires { Turns task access event × (state.element < mostElements) }
+    requires { Turns task access event × (state.element < most_elements) }
     ensures { choice_of held.new own.new uses.new result ≡ turn_of task access event (choice_of held.old own.old uses.old state) }
 {
     let k = (event % KIND) as usize;
@@ -109,7 +109,7 @@ pub fn plan_signal(
     uses: &mut [u8; MOST_USES],
 ) -> u32
     requires { Ready tasks grid.now signal events.now count numbers }
-    ensures { (result ≡ (chosen (passTable tasks grid.now) signal uses.old).count) × (uses.new ≡ (chosen (passTable tasks grid.now) signal uses.old).uses) }
+    ensures { (result ≡ (chosen (pass_table tasks grid.now) signal uses.old).count) × (uses.new ≡ (chosen (pass_table tasks grid.now) signal uses.old).uses) }
 {
     let mut held = [0u32; MOST_ELEMENTS];
     held[CARRIED_ELEMENT] = NEVER;

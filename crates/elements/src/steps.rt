@@ -1,8 +1,8 @@
 // What an opening or a closing does to the elements of a signal.
 ghost use Rattle.std.specs.Prelude.{List, ◌≡◌, ℕ, ◌<◌, ◌≤◌};
-ghost use Rattle.rules.specs.Table.{mostTasks, mostUses, mostElements};
+ghost use Rattle.rules.specs.Table.{most_tasks, most_uses, most_elements};
 ghost use Rattle.theory.specs.Chosen.{sent, taken, followed};
-ghost use Rattle.elements.specs.Steps.{freeIn, choice_of};
+ghost use Rattle.elements.specs.Steps.{free_in, choice_of};
 
 use crate::{LAST, NEVER, Standing};
 use fields::larger;
@@ -10,7 +10,7 @@ use rules::{MOST_ELEMENTS, MOST_TASKS, MOST_USES};
 
 // The lowest element that is not held past the tick. One always is free, so that the last is not asked.
 pub fn first_free(held: &[u32; MOST_ELEMENTS], tick: u32) -> usize
-    ensures { (result ≡ freeIn held.now tick) × (result < mostElements) }
+    ensures { (result ≡ free_in held.now tick) × (result < most_elements) }
 {
     let mut e: usize = 0;
     while e < LAST {
@@ -24,7 +24,7 @@ pub fn first_free(held: &[u32; MOST_ELEMENTS], tick: u32) -> usize
 
 // A reader gets the element that stands, which is held until the reader closes.
 pub fn send(uses: &mut [u8; MOST_USES], number: usize, closing: u32, state: Standing) -> Standing
-    requires { (number < mostUses) × (state.element < mostElements) }
+    requires { (number < most_uses) × (state.element < most_elements) }
     ensures { (held own : List ℕ) → choice_of held own uses.new result ≡ sent (choice_of held own uses.old state) number closing }
 {
     uses[number] = state.element as u8;
@@ -45,8 +45,8 @@ pub fn take(
     tick: u32,
     state: Standing,
 ) -> Standing
-    requires { (number < mostUses) × (task < mostTasks) }
-    ensures { choice_of held.new own.new uses.new result ≡ taken (choice_of held.old own.old uses.old state) number task (freeIn held.old tick) }
+    requires { (number < most_uses) × (task < most_tasks) }
+    ensures { choice_of held.new own.new uses.new result ≡ taken (choice_of held.old own.old uses.old state) number task (free_in held.old tick) }
 {
     let e = first_free(held, tick);
     held[e] = NEVER;
@@ -67,7 +67,7 @@ pub fn publish(
     tick: u32,
     state: Standing,
 ) -> Standing
-    requires { (task < mostTasks) × (state.element < mostElements) }
+    requires { (task < most_tasks) × (state.element < most_elements) }
     ensures { (uses : List ℕ) → choice_of held.new own.now uses result ≡ followed (choice_of held.old own.now uses state) task tick }
 {
     let element = state.element;

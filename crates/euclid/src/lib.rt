@@ -1,11 +1,11 @@
 // Greatest common divisor by Euclid's rule, and the least common multiple above it.
 ghost use Rattle.std.specs.Prelude.{◌≡◌, ◌<◌, ◌≤◌};
-ghost use Rattle.rules.specs.Euclid.{gcdOf, lcmOf};
+ghost use Rattle.rules.specs.Euclid.{gcd_of, lcm_of};
 ghost use Rattle.rules.specs.Table.{longest};
 
 // Each pair is handed on as a smaller pair, until the remainder is 0.
 pub fn gcd(a: u32, b: u32) -> u32
-    ensures { result ≡ gcdOf a b }
+    ensures { result ≡ gcd_of a b }
 {
     if b == 0 { a } else { gcd(b, a % b) }
 }
@@ -13,7 +13,7 @@ pub fn gcd(a: u32, b: u32) -> u32
 // Of a hyper-period so far and a period more.
 pub fn lcm(a: u32, b: u32) -> u32
     requires { (0 < a) × (a ≤ longest) × (b ≤ longest) }
-    ensures { result ≡ lcmOf a b }
+    ensures { result ≡ lcm_of a b }
 {
     a / gcd(a, b) * b
 }

@@ -1,9 +1,9 @@
 // The openings and closings of a hyper-period as numbers in their order: by tick, closings before openings, then by task.
 ghost use Rattle.std.specs.Prelude.{◌≡◌, ◌+◌, ◌*◌, ◌<◌, ◌≤◌, length};
 ghost use Rattle.rules.specs.Windows.{hyper};
-ghost use Rattle.rules.specs.Table.{Fits, mostTasks, longest};
-ghost use Rattle.theory.specs.Sweep.{openingNumber};
-ghost use Rattle.events.specs.Order.{tasksTable, FirstOpenings, WindowFits, followingOf, Leads, ordered};
+ghost use Rattle.rules.specs.Table.{Fits, most_tasks, longest};
+ghost use Rattle.theory.specs.Sweep.{opening_number};
+ghost use Rattle.events.specs.Order.{tasks_table, FirstOpenings, WindowFits, following_of, Leads, ordered};
 
 use rules::{MOST_INSTANCES, MOST_TASKS, Task, Tasks};
 
@@ -24,16 +24,16 @@ pub struct Events {
 
 // The number of the opening of task number k at tick t.
 fn opening_number(t: u32, k: usize) -> u32
-    requires { (t ≤ longest) × (k < mostTasks) }
-    ensures { result ≡ openingNumber t k }
+    requires { (t ≤ longest) × (k < most_tasks) }
+    ensures { result ≡ opening_number t k }
 {
     (t * 2 + 1) * KIND + k as u32
 }
 
 // The first opening of each task.
 fn first_openings(tasks: Tasks) -> [u32; MOST_TASKS]
-    requires { Fits (tasksTable tasks) }
-    ensures { (length result ≡ mostTasks) × FirstOpenings tasks tasks.count result }
+    requires { Fits (tasks_table tasks) }
+    ensures { (length result ≡ most_tasks) × FirstOpenings tasks tasks.count result }
 {
     let mut next: [u32; MOST_TASKS] = [0; MOST_TASKS];
     let mut k: usize = 0;
@@ -46,8 +46,8 @@ fn first_openings(tasks: Tasks) -> [u32; MOST_TASKS]
 
 // The task's closing after an opening, and its next opening after a closing.
 fn following(task: Task, event: u32) -> u32
-    requires { WindowFits task × (event ≤ longest * 2 * mostTasks + mostTasks) }
-    ensures { result ≡ followingOf task event }
+    requires { WindowFits task × (event ≤ longest * 2 * most_tasks + most_tasks) }
+    ensures { result ≡ following_of task event }
 {
     if event / KIND % 2 == 1 {
         event + (task.end - task.start) * TICK - KIND
@@ -58,7 +58,7 @@ fn following(task: Task, event: u32) -> u32
 
 // The task that is next.
 fn least(next: &[u32; MOST_TASKS], count: usize) -> usize
-    requires { (1 ≤ count) × (count ≤ mostTasks) }
+    requires { (1 ≤ count) × (count ≤ most_tasks) }
     ensures* { do ⌜ Leads next.now count result ⌝ }
 {
     let mut best: usize = 0;
@@ -74,8 +74,8 @@ fn least(next: &[u32; MOST_TASKS], count: usize) -> usize
 
 // Task by task the next one is taken, until the hyper-period ends.
 pub fn order_events(tasks: Tasks, h: u32) -> Events
-    requires { Fits (tasksTable tasks) × (h ≡ hyper (tasksTable tasks)) }
-    ensures { result ≡ ordered (tasksTable tasks) }
+    requires { Fits (tasks_table tasks) × (h ≡ hyper (tasks_table tasks)) }
+    ensures { result ≡ ordered (tasks_table tasks) }
 {
     let end = h * TICK + KIND;
     let mut next = first_openings(tasks);

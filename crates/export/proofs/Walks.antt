@@ -75,20 +75,20 @@ module _ {M : Type 1} {𝓤 : Ura M} (𝓛 : Logic 𝓤) (at_mem : Memory → SP
   abbrev pub Numbers : Contract 𝓤
   Numbers = triple_of 𝓛 numbers.signature (numbers.spec 𝓛 at_mem run)
 
-  abbrev pub to-numbers : Answer → Val → Numbers.Ghost
-  to-numbers r u = ((tt, tt, tt, (r, tt), (u ∷ [], tt)), tt)
+  abbrev pub to_numbers : Answer → Val → Numbers.Ghost
+  to_numbers r u = ((tt, tt, tt, (r, tt), (u ∷ [], tt)), tt)
 
-  asks-numbers : (r : Answer) (u : Val) → Is S.the_row r (u ∷ []) → ent 𝓤 (emp 𝓤) (Numbers.pre (to-numbers r u))
-  asks-numbers r u is = qed 𝓛 [] ∵ nothing ! $ nothing ! $ owned ! S.the_row (Is S.the_row) (EL.makes S.the_type S'.the_plain 𝓛) r _ is $ fjoin ! $ move ! (1 ∷ 0 ∷ []) $ join ! $ frame ! $ done !
+  asks_numbers : (r : Answer) (u : Val) → Is S.the_row r (u ∷ []) → ent 𝓤 (emp 𝓤) (Numbers.pre (to_numbers r u))
+  asks_numbers r u is = qed 𝓛 [] ∵ nothing ! $ nothing ! $ owned ! S.the_row (Is S.the_row) (EL.makes S.the_type S'.the_plain 𝓛) r _ is $ fjoin ! $ move ! (1 ∷ 0 ∷ []) $ join ! $ frame ! $ done !
 
 module _ {M : Type 1} {𝓤 : Ura M} {𝓛 : Logic 𝓤} {K : Type 0} {Γ : List (Item 𝓤)} {C : Calls 𝓤 𝓛.H} {Λ : Loops 𝓤 𝓛.H} {E : Env 𝓤 𝓛.H} {q : Post 𝓤 𝓛.H} {rest : Body} {xs : List Operand} {d : Place} where
   open 𝓛 use {H}
 
-  pub tells-numbers : K → (at_mem : Memory → SProp 𝓤) (run : Routine → Fun 𝓤) → FmC 𝓤 H 𝓛.laws C → Triple 𝓤 (C #export·numbers-of) (Numbers 𝓛 at_mem run) → (r : Answer) (u : Val) → Is S.the_row r (u ∷ [])
-      → Opds K 𝓛 (raw ((Numbers 𝓛 at_mem run).pre (to-numbers 𝓛 at_mem run r u)) ∷ Γ) E xs (u ∷ []) → ((n : Numbered) (v : Val) → n ≡ numbered (told r) → Is N.the_row n (v ∷ []) → Seq K 𝓛 Γ (lands C Λ E d v rest q))
+  pub tells_numbers : K → (at_mem : Memory → SProp 𝓤) (run : Routine → Fun 𝓤) → FmC 𝓤 H 𝓛.laws C → Triple 𝓤 (C #export·numbers-of) (Numbers 𝓛 at_mem run) → (r : Answer) (u : Val) → Is S.the_row r (u ∷ [])
+      → Opds K 𝓛 (raw ((Numbers 𝓛 at_mem run).pre (to_numbers 𝓛 at_mem run r u)) ∷ Γ) E xs (u ∷ []) → ((n : Numbered) (v : Val) → n ≡ numbered (told r) → Is N.the_row n (v ∷ []) → Seq K 𝓛 Γ (lands C Λ E d v rest q))
       → Seq K 𝓛 Γ (runs C Λ E (seq (call #export·numbers-of xs d) rest) q)
-  tells-numbers t at_mem run fm known r u is operands k =
-      use0 𝓛 (raw ((Numbers 𝓛 at_mem run).pre (to-numbers 𝓛 at_mem run r u))) (asks-numbers 𝓛 at_mem run r u is) $ calls_at t fm (Numbers 𝓛 at_mem run) known (to-numbers 𝓛 at_mem run r u) operands (λ v.
+  tells_numbers t at_mem run fm known r u is operands k =
+      use0 𝓛 (raw ((Numbers 𝓛 at_mem run).pre (to_numbers 𝓛 at_mem run r u))) (asks_numbers 𝓛 at_mem run r u is) $ calls_at t fm (Numbers 𝓛 at_mem run) known (to_numbers 𝓛 at_mem run r u) operands (λ v.
       use1 𝓛 (later (some (λ (n : Numbered). (‵ ftrue ⊛ ‵ ((N.the_row).own_val n (v ∷ []))) ⊛ some (λ ws. ‵ (lasts numbers.ended tt (r, tt) ws) ⊛ raw (fact 𝓤 (n ≡ numbered (told r))))))) (id⊢ 𝓤 _) $ await t tt $ pick t (λ n.
       split t $ move t (1 ∷ []) $ pick t (λ ws. split t $ drop t $ heard t (n ≡ numbered (told r)) (λ said. split t $ drop t $ peeks t N.the_row (Is N.the_row) (shows 𝓛 N.the_row) n (v ∷ []) (λ given. drop t $ k n v said given)))))
 
@@ -96,8 +96,8 @@ module _ (n : Numbered) (v : Val) (is : Is N.the_row n (v ∷ [])) where
   pub number_fits : n.number < 2 ^ 8
   number_fits = (LL.owed N.the_type N'.the_laws n (v ∷ []) is).0.1
 
-  pub place-fits : n.place < 2 ^ 64
-  place-fits = (LL.owed N.the_type N'.the_laws n (v ∷ []) is).1.0.1
+  pub place_fits : n.place < 2 ^ 64
+  place_fits = (LL.owed N.the_type N'.the_laws n (v ∷ []) is).1.0.1
 
 -- ---- from a walk to a theorem
 module _ {M : Type 1} {𝓤 : Ura M} (𝓛 : Logic 𝓤) (𝓜 : Model 𝓤 𝓛.H) (𝓡 : Running 𝓤 𝓛.H 𝓜) (env : Routines) where
@@ -121,8 +121,8 @@ module _ {M : Type 1} {𝓤 : Ura M} (𝓛 : Logic 𝓤) (𝓜 : Model 𝓤 𝓛
   unfolding tables_of
   framed = fm_of 𝓤 H 𝓛.laws (tables_of 𝓤 H 𝓜 (tables 𝓤 H 𝓜 𝓡 env))
 
-  pub numbers-known : env #export·numbers-of ≡ numbers-def.routine → Triple 𝓤 ((tables 𝓤 H 𝓜 𝓡 env).C #export·numbers-of) (Numbers 𝓛 𝓜.mem 𝓡.run)
-  numbers-known e = cited 𝓤 H (Numbers 𝓛 𝓜.mem 𝓡.run) 𝓜 𝓡 env #export·numbers-of numbers-def.routine e (numbers-thm.met 𝓤 𝓛 𝓜 𝓡)
+  pub numbers_known : env #export·numbers-of ≡ numbers-def.routine → Triple 𝓤 ((tables 𝓤 H 𝓜 𝓡 env).C #export·numbers-of) (Numbers 𝓛 𝓜.mem 𝓡.run)
+  numbers_known e = cited 𝓤 H (Numbers 𝓛 𝓜.mem 𝓡.run) 𝓜 𝓡 env #export·numbers-of numbers-def.routine e (numbers-thm.met 𝓤 𝓛 𝓜 𝓡)
 
 -- ---- steps about code. Local number i stands at `spot p last i`, where the last local stands at p: so a step finds it from the code
 abbrev pub spot : ℕ → ℕ → ℕ → ℕ

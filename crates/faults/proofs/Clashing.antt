@@ -10,50 +10,50 @@ use borrow.Author.Tests.{eqb-true, ltb-true, lt-ltb, eq-eqb}
 use Rattle.rules.specs.Words.{every, when}
 use Rattle.rules.specs.Windows.{Table}
 use Rattle.rules.specs.Values.{Value, carried, by, same, opening, until}
-use Rattle.rules.specs.Table.{everyWriter}
-use Rattle.rules.specs.Schedule.{Schedule, elementOf, clash}
+use Rattle.rules.specs.Table.{every_writer}
+use Rattle.rules.specs.Schedule.{Schedule, element_of, clash}
 use Rattle.rules.specs.Bytes.{wi}
 use Rattle.rules.specs.Answers.{sharing}
-use Rattle.rules.specs.Reading.{Grid, writesIn}
-use Rattle.theory.proofs.Tests.{agree, no_test, both, both3, and_is, is, holds, unless, unless-is, or_cases, or_left, or_right}
-use Rattle.theory.proofs.Check.{every-at, every-is, writer-at, writer-is}
+use Rattle.rules.specs.Reading.{Grid, writes_in}
+use Rattle.theory.proofs.Tests.{agree, no_test, both, both3, and_is, is, holds, unless, unless_is, or_cases, or_left, or_right}
+use Rattle.theory.proofs.Check.{every_at, every_is, writer_at, writer_is}
 use Rattle.form.specs.declared.sides.Side.{Side}
-use Rattle.table.proofs.Clashes.{every-fails, every_holds}
+use Rattle.table.proofs.Clashes.{every_fails, every_holds}
 use Rattle.faults.specs.declared.View.{View}
 use Rattle.faults.specs.declared.sharing.Held.{Held}
 use Rattle.faults.specs.declared.untils.Writer.{Writer}
-use Rattle.faults.specs.Faults.{viewTable, viewSchedule, Seen, Has, recordsIn, held_of, clashing, apartFrom, apartFromEarlier, Kept, writer_of, held_at, carriedIn}
-use Rattle.faults.proofs.Viewed.{has_of, has-below, held-is}
-use Rattle.faults.proofs.Numbered.{value-is}
+use Rattle.faults.specs.Faults.{view_table, view_schedule, Seen, Has, records_in, held_of, clashing, apart_from, apart_from_earlier, Kept, writer_of, held_at, carried_in}
+use Rattle.faults.proofs.Viewed.{has_of, has_below, held_is}
+use Rattle.faults.proofs.Numbered.{value_is}
 
-every-same : (n : ℕ) (p q : ℕ → Bool) → ((k : ℕ) → k < n → p k ≡ q k) → every n p ≡ every n q
-every-same n p q f = agree (λ e. every-is n q (λ k h. sym (f k h) ∙ every-at n p e k h)) (λ e. every-is n p (λ k h. f k h ∙ every-at n q e k h))
+every_same : (n : ℕ) (p q : ℕ → Bool) → ((k : ℕ) → k < n → p k ≡ q k) → every n p ≡ every n q
+every_same n p q f = agree (λ e. every_is n q (λ k h. sym (f k h) ∙ every_at n p e k h)) (λ e. every_is n p (λ k h. f k h ∙ every_at n q e k h))
 
 -- the same values
-apart-same : (values others : ℕ → Held) (held : Held) {r : Bool} {n m : ℕ} → r ≡ apartFrom values held n → n ≡ m → ((i : ℕ) → i < n → values i ≡ others i) → apartFrom others held m ≡ r
-unfolding apartFrom
-apart-same values others held {r} {n} {m} e q f = sym (e ∙ every-same n _ _ (λ i h. ap (λ (v : Held). not (clashing v held)) (f i h)) ∙ ap (apartFrom others held) q)
+apart_same : (values others : ℕ → Held) (held : Held) {r : Bool} {n m : ℕ} → r ≡ apart_from values held n → n ≡ m → ((i : ℕ) → i < n → values i ≡ others i) → apart_from others held m ≡ r
+unfolding apart_from
+apart_same values others held {r} {n} {m} e q f = sym (e ∙ every_same n _ _ (λ i h. ap (λ (v : Held). not (clashing v held)) (f i h)) ∙ ap (apart_from others held) q)
 
 -- those of task k, from what is kept
-pub apart-is : (v : View) (grid : Grid) (bytes : List ℕ) → Seen v grid bytes → (untils : List ℕ) → Kept v grid untils → (k : ℕ) → k < v.tasks.count → {w : Writer} → w ≡ writer_of v k → (held : Held) {r : Bool} {n m : ℕ} → n ≤ recordsIn (viewTable v grid) grid Side.Writers v.signal k → n ≡ m
-    → r ≡ apartFrom (held_at w untils bytes) held n → apartFrom (λ j. held_of (viewTable v grid) (viewSchedule v grid bytes) (by v.signal k j)) held m ≡ r
-apart-is v grid bytes K untils A k h {w} e held l q a =
-    apart-same (held_at w untils bytes) (λ j. held_of (viewTable v grid) (viewSchedule v grid bytes) (by v.signal k j)) held a q (λ i m. value-is v grid bytes K k e untils A i (has_of v grid Side.Writers k i h l m))
+pub apart_is : (v : View) (grid : Grid) (bytes : List ℕ) → Seen v grid bytes → (untils : List ℕ) → Kept v grid untils → (k : ℕ) → k < v.tasks.count → {w : Writer} → w ≡ writer_of v k → (held : Held) {r : Bool} {n m : ℕ} → n ≤ records_in (view_table v grid) grid Side.Writers v.signal k → n ≡ m
+    → r ≡ apart_from (held_at w untils bytes) held n → apart_from (λ j. held_of (view_table v grid) (view_schedule v grid bytes) (by v.signal k j)) held m ≡ r
+apart_is v grid bytes K untils A k h {w} e held l q a =
+    apart_same (held_at w untils bytes) (λ j. held_of (view_table v grid) (view_schedule v grid bytes) (by v.signal k j)) held a q (λ i m. value_is v grid bytes K k e untils A i (has_of v grid Side.Writers k i h l m))
 
 -- the earlier tasks, then the earlier instances of the same task
 module _ (tab : Table) (grid : Grid) (E : Schedule) (s : ℕ) (held : Held) (k i : ℕ) where
-  pub earlier-fails : (l : ℕ) → l < k → apartFrom (λ j. held_of tab E (by s l j)) held (recordsIn tab grid Side.Writers s l) ≡ false → false ≡ apartFromEarlier tab grid E s held k i
-  unfolding apartFromEarlier
-  earlier-fails l h e = ap (λ (b : Bool). b && apartFrom (λ j. held_of tab E (by s k j)) held i) (every-fails k l _ h e)
+  pub earlier_fails : (l : ℕ) → l < k → apart_from (λ j. held_of tab E (by s l j)) held (records_in tab grid Side.Writers s l) ≡ false → false ≡ apart_from_earlier tab grid E s held k i
+  unfolding apart_from_earlier
+  earlier_fails l h e = ap (λ (b : Bool). b && apart_from (λ j. held_of tab E (by s k j)) held i) (every_fails k l _ h e)
 
-  pub earlier-holds : {r : Bool} → r ≡ apartFrom (λ j. held_of tab E (by s k j)) held i → ((l : ℕ) → l < k → apartFrom (λ j. held_of tab E (by s l j)) held (recordsIn tab grid Side.Writers s l) ≡ true) → r ≡ apartFromEarlier tab grid E s held k i
-  unfolding apartFromEarlier
-  earlier-holds e f = e ∙ ap (λ (b : Bool). b && apartFrom (λ j. held_of tab E (by s k j)) held i) (every_holds k _ f)
+  pub earlier_holds : {r : Bool} → r ≡ apart_from (λ j. held_of tab E (by s k j)) held i → ((l : ℕ) → l < k → apart_from (λ j. held_of tab E (by s l j)) held (records_in tab grid Side.Writers s l) ≡ true) → r ≡ apart_from_earlier tab grid E s held k i
+  unfolding apart_from_earlier
+  earlier_holds e f = e ∙ ap (λ (b : Bool). b && apart_from (λ j. held_of tab E (by s k j)) held i) (every_holds k _ f)
 
 module _ (tab : Table) (E : Schedule) where
-  clash-is : (u v : Value) → same u v ≡ false → clash tab E u v ≡ clashing (held_of tab E u) (held_of tab E v)
+  clash_is : (u v : Value) → same u v ≡ false → clash tab E u v ≡ clashing (held_of tab E u) (held_of tab E v)
   unfolding clash clashing when
-  clash-is u v e = go (eqb (elementOf E u) (elementOf E v)) (ltb (opening tab u) (until tab v)) (ltb (opening tab v) (until tab u)) (same u v) e
+  clash_is u v e = go (eqb (element_of E u) (element_of E v)) (ltb (opening tab u) (until tab v)) (ltb (opening tab v) (until tab u)) (same u v) e
     where
       go : (a b c d : Bool) → d ≡ false → (a && b && c && not d) ≡ when a (when b c false) false
       go true true true d e = ap not e
@@ -67,10 +67,10 @@ module _ (tab : Table) (E : Schedule) where
 
 module _ (v : View) (grid : Grid) (bytes : List ℕ) (K : Seen v grid bytes) (k i : ℕ) (H : Has v grid Side.Writers k i) where
   abbrev tab : Table
-  tab = viewTable v grid
+  tab = view_table v grid
 
   abbrev E : Schedule
-  E = viewSchedule v grid bytes
+  E = view_schedule v grid bytes
 
   abbrev s : ℕ
   s = v.signal
@@ -81,43 +81,43 @@ module _ (v : View) (grid : Grid) (bytes : List ℕ) (K : Seen v grid bytes) (k 
   abbrev earlier : ℕ → ℕ → Bool
   earlier l j = ltb l k || (eqb l k && ltb j i)
 
-  clash-own : (l j : ℕ) → (l ≡ k → j ≡ i → ⊥) → clash tab E (by s l j) (by s k i) ≡ clashing (held_of tab E (by s l j)) own
-  clash-own l j n = clash-is tab E (by s l j) (by s k i) (other tab E s l j k i n)
+  clash_own : (l j : ℕ) → (l ≡ k → j ≡ i → ⊥) → clash tab E (by s l j) (by s k i) ≡ clashing (held_of tab E (by s l j)) own
+  clash_own l j n = clash_is tab E (by s l j) (by s k i) (other tab E s l j k i n)
 
-  earlier-is : everyWriter tab s (λ l j. not (earlier l j) || not (clash tab E (by s l j) (by s k i))) ≡ apartFromEarlier tab grid E s own k i
-  unfolding apartFrom apartFromEarlier
-  earlier-is =
+  earlier_is : every_writer tab s (λ l j. not (earlier l j) || not (clash tab E (by s l j) (by s k i))) ≡ apart_from_earlier tab grid E s own k i
+  unfolding apart_from apart_from_earlier
+  earlier_is =
       agree
       (λ e. and_is
-      (every-is k _ (λ l h. every-is _ _ (λ j m.
+      (every_is k _ (λ l h. every_is _ _ (λ j m.
       let (a, w, b) = has_of v grid Side.Writers l j (omega (arith, H.0)) (omega arith) m in
-      ap not (sym (clash-own l j (λ q. let z : ⊥ = omega arith in absurd z))) ∙ unless (earlier l j) _ (writer-at tab s _ e l j a (holds w) b) (or_left (ltb l k) _ (lt-ltb l k h)))))
-      (every-is i _ (λ j m.
-      ap not (sym (clash-own k j (λ p q. omega arith))) ∙ unless (earlier k j) _ (writer-at tab s _ e k j H.0 (holds H.1) (omega (arith, H.2))) (or_right (ltb k k) _ (and_is (eq-eqb k k refl) (lt-ltb j i m))))))
+      ap not (sym (clash_own l j (λ q. let z : ⊥ = omega arith in absurd z))) ∙ unless (earlier l j) _ (writer_at tab s _ e l j a (holds w) b) (or_left (ltb l k) _ (lt-ltb l k h)))))
+      (every_is i _ (λ j m.
+      ap not (sym (clash_own k j (λ p q. omega arith))) ∙ unless (earlier k j) _ (writer_at tab s _ e k j H.0 (holds H.1) (omega (arith, H.2))) (or_right (ltb k k) _ (and_is (eq-eqb k k refl) (lt-ltb j i m))))))
       (λ e.
-      let a = both (every k (λ l. apartFrom (λ j. held_of tab E (by s l j)) own (recordsIn tab grid Side.Writers s l))) (apartFrom (λ j. held_of tab E (by s k j)) own i) e in
-      writer-is tab s _ (λ l j h w m. unless-is (earlier l j) _ (λ o.
+      let a = both (every k (λ l. apart_from (λ j. held_of tab E (by s l j)) own (records_in tab grid Side.Writers s l))) (apart_from (λ j. held_of tab E (by s k j)) own i) e in
+      writer_is tab s _ (λ l j h w m. unless_is (earlier l j) _ (λ o.
       ⊎_elim
       (λ x.
       let z = ltb-true l k x in
-      ap not (clash-own l j (λ p. let y : ⊥ = omega arith in absurd y)) ∙ every-at _ _ (every-at k _ a.0 l z) j (has-below v grid Side.Writers l j (h, is (writesIn grid s l) w, m)))
+      ap not (clash_own l j (λ p. let y : ⊥ = omega arith in absurd y)) ∙ every_at _ _ (every_at k _ a.0 l z) j (has_below v grid Side.Writers l j (h, is (writes_in grid s l) w, m)))
       (λ x.
       let b = both (eqb l k) (ltb j i) x in
       let z = ltb-true j i b.1 in
       let y = eqb-true l k b.0 in
-      ap not (clash-own l j (λ p q. omega arith)) ∙ ap (λ n. not (clashing (held_of tab E (by s n j)) own)) y ∙ every-at i _ a.1 j z)
+      ap not (clash_own l j (λ p q. omega arith)) ∙ ap (λ n. not (clashing (held_of tab E (by s n j)) own)) y ∙ every_at i _ a.1 j z)
       (or_cases (ltb l k) _ o))))
 
-  sharing-is : sharing tab E (wi s k i) ≡ (clashing (held_of tab E (carried s)) own || not (apartFromEarlier tab grid E s own k i))
+  sharing_is : sharing tab E (wi s k i) ≡ (clashing (held_of tab E (carried s)) own || not (apart_from_earlier tab grid E s own k i))
   unfolding same
-  sharing-is = ap₂ (λ (a b : Bool). a || not b) (clash-is tab E (carried s) (by s k i) refl) earlier-is
+  sharing_is = ap₂ (λ (a b : Bool). a || not b) (clash_is tab E (carried s) (by s k i) refl) earlier_is
 
-  module _ {held first : Held} {b : Bool} (e : held ≡ own) (untils : List ℕ) (A : Kept v grid untils) (f : first ≡ carriedIn untils) (q : b ≡ clashing first held) where
-    carried-said : b ≡ clashing (held_of tab E (carried s)) own
-    carried-said = q ∙ ap₂ clashing (f ∙ held-is 0 refl A.first) e
+  module _ {held first : Held} {b : Bool} (e : held ≡ own) (untils : List ℕ) (A : Kept v grid untils) (f : first ≡ carried_in untils) (q : b ≡ clashing first held) where
+    carried_said : b ≡ clashing (held_of tab E (carried s)) own
+    carried_said = q ∙ ap₂ clashing (f ∙ held_is 0 refl A.first) e
 
-    pub shares-carried : b ≡ true → true ≡ sharing tab E (wi s k i)
-    shares-carried t = sym (sharing-is ∙ or_left _ _ (sym carried-said ∙ t))
+    pub shares_carried : b ≡ true → true ≡ sharing tab E (wi s k i)
+    shares_carried t = sym (sharing_is ∙ or_left _ _ (sym carried_said ∙ t))
 
-    pub shares-earlier : b ≡ false → {r : Bool} → r ≡ apartFromEarlier tab grid E s held k i → not r ≡ sharing tab E (wi s k i)
-    shares-earlier t a = ap not (a ∙ ap (λ (h : Held). apartFromEarlier tab grid E s h k i) e) ∙ sym (sharing-is ∙ ap (λ (x : Bool). x || not (apartFromEarlier tab grid E s own k i)) (sym carried-said ∙ t))
+    pub shares_earlier : b ≡ false → {r : Bool} → r ≡ apart_from_earlier tab grid E s held k i → not r ≡ sharing tab E (wi s k i)
+    shares_earlier t a = ap not (a ∙ ap (λ (h : Held). apart_from_earlier tab grid E s h k i) e) ∙ sym (sharing_is ∙ ap (λ (x : Bool). x || not (apart_from_earlier tab grid E s own k i)) (sym carried_said ∙ t))

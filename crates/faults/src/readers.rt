@@ -2,11 +2,11 @@
 ghost use Rattle.std.specs.Prelude.{◌≡◌, ◌≤◌};
 ghost use Rattle.rules.specs.Windows as windows;
 ghost use Rattle.rules.specs.Values.{bound};
-ghost use Rattle.rules.specs.Schedule.{elementOf};
+ghost use Rattle.rules.specs.Schedule.{element_of};
 ghost use Rattle.rules.specs.Bytes.{ri};
-ghost use Rattle.rules.specs.Answers.{sentWrong};
+ghost use Rattle.rules.specs.Answers.{sent_wrong};
 ghost use Rattle.form.specs.declared.sides.Side.{Side};
-ghost use Rattle.faults.specs.Faults.{viewTable, viewSchedule, Seen, Has};
+ghost use Rattle.faults.specs.Faults.{view_table, view_schedule, Seen, Has};
 
 use crate::View;
 use rules::{CARRIED, CARRIED_ELEMENT, MOST_SIGNALS, MOST_TASKS};
@@ -20,8 +20,8 @@ fn bound_element(
     tick: u32,
     schedule: &[u8],
 ) -> usize
-    requires { Seen view grid.now schedule.now × (tick ≤ windows.hyper (viewTable view grid.now)) }
-    ensures { result ≡ elementOf (viewSchedule view grid.now schedule.now) (bound (viewTable view grid.now) view.signal tick) }
+    requires { Seen view grid.now schedule.now × (tick ≤ windows.hyper (view_table view grid.now)) }
+    ensures { result ≡ element_of (view_schedule view grid.now schedule.now) (bound (view_table view grid.now) view.signal tick) }
 {
     let tasks = view.tasks;
     let value = binding_at(tasks, grid, view.signal, tick);
@@ -41,7 +41,7 @@ pub fn sent_wrong(
     schedule: &[u8],
 ) -> bool
     requires { Seen view grid.now schedule.now × Has view grid.now Side.Readers task instance }
-    ensures { result ≡ sentWrong (viewTable view grid.now) (viewSchedule view grid.now schedule.now) (ri view.signal task instance) }
+    ensures { result ≡ sent_wrong (view_table view grid.now) (view_schedule view grid.now schedule.now) (ri view.signal task instance) }
 {
     let tasks = view.tasks;
     let reader = tasks.list[task];

@@ -1,14 +1,14 @@
 // Record by record, signal after signal, until one is wrong.
 ghost use Rattle.std.specs.Prelude.{◌≡◌, List, ℕ, ◌+◌, ◌*◌, ◌-◌, ◌≤◌, ◌<◌, length};
-ghost use Rattle.rules.specs.Table.{mostTasks};
-ghost use Rattle.rules.specs.Bytes.{parts, scheduleLength, scheduleIn};
+ghost use Rattle.rules.specs.Table.{most_tasks};
+ghost use Rattle.rules.specs.Bytes.{parts, schedule_length, schedule_in};
 ghost use Rattle.rules.specs.Numbers.{Told};
-ghost use Rattle.rules.specs.Answers.{firstSays};
-ghost use Rattle.form.specs.Records.{useOf, instanceParts};
+ghost use Rattle.rules.specs.Answers.{first_says};
+ghost use Rattle.form.specs.Records.{use_of, instance_parts};
 ghost use Rattle.form.specs.Form.{walked};
-ghost use Rattle.sweep.specs.Pass.{longestBytes};
+ghost use Rattle.sweep.specs.Pass.{longest_bytes};
 ghost use Rattle.faults.specs.declared.Fault.{Fault};
-ghost use Rattle.faults.specs.Faults.{readTable, Accepted, viewTable, viewSchedule, Seen, Has, KeptFor, first_of, recordsIn, side_of, wrongOf, seek, placed};
+ghost use Rattle.faults.specs.Faults.{read_table, Accepted, view_table, view_schedule, Seen, Has, KeptFor, first_of, records_in, side_of, wrong_of, seek, placed};
 
 use crate::readers::sent_wrong;
 use crate::sharing::shares;
@@ -26,8 +26,8 @@ pub fn first_fault(
     side: Side,
     schedule: &[u8],
 ) -> Fault
-    requires { Accepted read grid.now × (scheduleLength (readTable read grid.now) ≤ length schedule.now) }
-    ensures { (n : ℕ) (rest : Told) → placed result n rest ≡ firstSays (readTable read grid.now) (wrongOf (readTable read grid.now) (scheduleIn (readTable read grid.now) schedule.now) side) n (parts (readTable read grid.now)) rest }
+    requires { Accepted read grid.now × (schedule_length (read_table read grid.now) ≤ length schedule.now) }
+    ensures { (n : ℕ) (rest : Told) → placed result n rest ≡ first_says (read_table read grid.now) (wrong_of (read_table read grid.now) (schedule_in (read_table read grid.now) schedule.now) side) n (parts (read_table read grid.now)) rest }
 {
     let tasks = read.tasks;
     let signals = read.signals;
@@ -63,7 +63,7 @@ fn signal_fault(
     schedule: &[u8],
 ) -> Fault
     requires { Seen view grid.now schedule.now }
-    ensures { result ≡ walked (seek (viewTable view grid.now) (wrongOf (viewTable view grid.now) (viewSchedule view grid.now schedule.now) side)) (side_of (viewTable view grid.now) grid.now side view.tasks.count view.signal) Fault.Nowhere }
+    ensures { result ≡ walked (seek (view_table view grid.now) (wrong_of (view_table view grid.now) (view_schedule view grid.now schedule.now) side)) (side_of (view_table view grid.now) grid.now side view.tasks.count view.signal) Fault.Nowhere }
 {
     let mut untils: [u32; MOST_VALUES] = [0; MOST_VALUES];
     keep_for(view, grid, side, &mut untils);
@@ -91,7 +91,7 @@ fn task_fault(
     schedule: &[u8],
 ) -> Fault
     requires { Seen view grid.now schedule.now × KeptFor side view grid.now untils.now × (task < view.tasks.count) }
-    ensures { result ≡ walked (seek (viewTable view grid.now) (wrongOf (viewTable view grid.now) (viewSchedule view grid.now schedule.now) side)) (instanceParts side view.signal task (recordsIn (viewTable view grid.now) grid.now side view.signal task)) Fault.Nowhere }
+    ensures { result ≡ walked (seek (view_table view grid.now) (wrong_of (view_table view grid.now) (view_schedule view grid.now schedule.now) side)) (instance_parts side view.signal task (records_in (view_table view grid.now) grid.now side view.signal task)) Fault.Nowhere }
 {
     let records = records_of(view, grid, side, task);
     let places = view.places;
@@ -115,7 +115,7 @@ fn is_wrong(
     schedule: &[u8],
 ) -> bool
     requires { Seen view grid.now schedule.now × KeptFor side view grid.now untils.now × Has view grid.now side task instance }
-    ensures { result ≡ wrongOf (viewTable view grid.now) (viewSchedule view grid.now schedule.now) side (useOf side view.signal task instance) }
+    ensures { result ≡ wrong_of (view_table view grid.now) (view_schedule view grid.now schedule.now) side (use_of side view.signal task instance) }
 {
     match side {
         Side::Readers => sent_wrong(view, grid, task, instance, schedule),
@@ -125,7 +125,7 @@ fn is_wrong(
 
 // Where a record starts, from the place of its task's first element.
 fn start_of(places: Places, side: Side, task: usize, instance: u32) -> usize
-    requires { (task < mostTasks) × (6 ≤ first_of places side task + 7 * instance) × (first_of places side task + 7 * instance ≤ longestBytes) }
+    requires { (task < most_tasks) × (6 ≤ first_of places side task + 7 * instance) × (first_of places side task + 7 * instance ≤ longest_bytes) }
     ensures { result ≡ first_of places side task + 7 * instance - 6 }
 {
     match side {
@@ -142,7 +142,7 @@ pub fn records_of(
     task: usize,
 ) -> u32
     requires { ((bytes : List ℕ) × Seen view grid.now bytes) × (task < view.tasks.count) }
-    ensures { result ≡ recordsIn (viewTable view grid.now) grid.now side view.signal task }
+    ensures { result ≡ records_in (view_table view grid.now) grid.now side view.signal task }
 {
     if !permitted(grid, task, view.signal, side) {
         return 0;

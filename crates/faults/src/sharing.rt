@@ -3,7 +3,7 @@ ghost use Rattle.std.specs.Prelude.{◌≡◌, ℕ, ◌<◌};
 ghost use Rattle.rules.specs.Bytes.{wi};
 ghost use Rattle.rules.specs.Answers.{sharing};
 ghost use Rattle.form.specs.declared.sides.Side.{Side};
-ghost use Rattle.faults.specs.Faults.{viewTable, viewSchedule, Seen, Has, Kept, InReach, held_at, carriedIn, clashing, apartFrom, apartFromEarlier};
+ghost use Rattle.faults.specs.Faults.{view_table, view_schedule, Seen, Has, Kept, InReach, held_at, carried_in, clashing, apart_from, apart_from_earlier};
 
 use crate::View;
 use crate::search::records_of;
@@ -33,7 +33,7 @@ fn clashes(a: Held, b: Held) -> bool
 }
 
 fn carried_value(untils: &[u32; MOST_VALUES]) -> Held
-    ensures { result ≡ carriedIn untils.now }
+    ensures { result ≡ carried_in untils.now }
 {
     Held {
         element: CARRIED_ELEMENT,
@@ -63,7 +63,7 @@ fn apart_from(
     schedule: &[u8],
 ) -> bool
     requires { (i : ℕ) → i < records → InReach writer schedule.now i }
-    ensures { result ≡ apartFrom (held_at writer untils.now schedule.now) held records }
+    ensures { result ≡ apart_from (held_at writer untils.now schedule.now) held records }
 {
     let mut i: u32 = 0;
     while i < records {
@@ -86,7 +86,7 @@ fn apart_from_earlier(
     schedule: &[u8],
 ) -> bool
     requires { Seen view grid.now schedule.now × Kept view grid.now untils.now × Has view grid.now Side.Writers task instance }
-    ensures { result ≡ apartFromEarlier (viewTable view grid.now) grid.now (viewSchedule view grid.now schedule.now) view.signal held task instance }
+    ensures { result ≡ apart_from_earlier (view_table view grid.now) grid.now (view_schedule view grid.now schedule.now) view.signal held task instance }
 {
     let mut k: usize = 0;
     while k < task {
@@ -108,7 +108,7 @@ pub fn shares(
     schedule: &[u8],
 ) -> bool
     requires { Seen view grid.now schedule.now × Kept view grid.now untils.now × Has view grid.now Side.Writers task instance }
-    ensures { result ≡ sharing (viewTable view grid.now) (viewSchedule view grid.now schedule.now) (wi view.signal task instance) }
+    ensures { result ≡ sharing (view_table view grid.now) (view_schedule view grid.now schedule.now) (wi view.signal task instance) }
 {
     let held = written(writer_of(view, task), untils, instance, schedule);
     if clashes(carried_value(untils), held) {

@@ -1,9 +1,9 @@
 // Until when each value of a signal is live, worked out once and kept: by the number of its WI, and after them all the carried one.
 ghost use Rattle.std.specs.Prelude.{◌≡◌, List, ℕ, suc, ◌≤◌, ◌<◌, length, get_or};
 ghost use Rattle.rules.specs.Values as values;
-ghost use Rattle.rules.specs.Table.{mostTasks, mostValues};
+ghost use Rattle.rules.specs.Table.{most_tasks, most_values};
 ghost use Rattle.form.specs.declared.sides.Side.{Side};
-ghost use Rattle.faults.specs.Faults.{viewTable, Seen, Has, writer_of, KeptTo, Kept, KeptFor};
+ghost use Rattle.faults.specs.Faults.{view_table, Seen, Has, writer_of, KeptTo, Kept, KeptFor};
 
 use crate::View;
 use crate::search::records_of;
@@ -24,7 +24,7 @@ pub struct Writer {
 }
 
 pub fn writer_of(view: View, task: usize) -> Writer
-    requires { (task < mostTasks) × (get_or view.places.writers 0 0 ≤ get_or view.places.writers task 0) }
+    requires { (task < most_tasks) × (get_or view.places.writers 0 0 ≤ get_or view.places.writers task 0) }
     ensures { result ≡ writer_of view task }
 {
     let tasks = view.tasks;
@@ -42,7 +42,7 @@ pub fn writer_of(view: View, task: usize) -> Writer
 // Until when the value of a writer's instance is live.
 fn life_end(view: View, grid: &[[u8; MOST_SIGNALS]; MOST_TASKS], task: usize, instance: u32) -> u32
     requires { ((bytes : List ℕ) × Seen view grid.now bytes) × Has view grid.now Side.Writers task instance }
-    ensures { result ≡ values.until (viewTable view grid.now) (values.by view.signal task instance) }
+    ensures { result ≡ values.until (view_table view grid.now) (values.by view.signal task instance) }
 {
     let tasks = view.tasks;
     let writer = tasks.list[task];
@@ -71,7 +71,7 @@ fn keep_task(
 
 // The carried value, and those of all tasks.
 fn keep_all(view: View, grid: &[[u8; MOST_SIGNALS]; MOST_TASKS], untils: &mut [u32; MOST_VALUES])
-    requires { ((bytes : List ℕ) × Seen view grid.now bytes) × (length untils.old ≡ mostValues) }
+    requires { ((bytes : List ℕ) × Seen view grid.now bytes) × (length untils.old ≡ most_values) }
     ensures { Kept view grid.now untils.new }
 {
     let tasks = view.tasks;
@@ -90,7 +90,7 @@ pub fn keep_for(
     side: Side,
     untils: &mut [u32; MOST_VALUES],
 )
-    requires { ((bytes : List ℕ) × Seen view grid.now bytes) × (length untils.old ≡ mostValues) }
+    requires { ((bytes : List ℕ) × Seen view grid.now bytes) × (length untils.old ≡ most_values) }
     ensures { KeptFor side view grid.now untils.new }
 {
     match side {

@@ -5,7 +5,7 @@ use Prim.Native.Nat.{ℕ, zero, suc, ◌+◌, ◌*◌, ◌≤◌, zero-le}
 use native.Mathlib.Nat.{le_refl}
 use native.Mathlib.Omega.{arith}
 use borrow.Author.Tests.{ltb-false}
-use Rattle.rules.specs.Table.{mostElements}
+use Rattle.rules.specs.Table.{most_elements}
 use Rattle.fields.proofs.Whens.{over}
 use Rattle.rules.specs.Words.{gather}
 use Rattle.rules.specs.Fields.{WI, RI, byte_at}
@@ -14,8 +14,8 @@ use Rattle.rules.specs.Reading.{Grid}
 use Rattle.form.specs.declared.sides.Side.{Side}
 use Rattle.form.specs.declared.forms.Place.{Place}
 use Rattle.form.specs.declared.forms.Walk.{Walk}
-use Rattle.form.specs.Records.{useOf, usersOf, sideParts, sidesParts, signalParts, parts_in}
-use Rattle.form.specs.Form.{walked, step, signalStep, useStep}
+use Rattle.form.specs.Records.{use_of, users_of, side_parts, sides_parts, signal_parts, parts_in}
+use Rattle.form.specs.Form.{walked, step, signal_step, use_step}
 
 -- ---- n signals' own records stand before the list, m before its end
 
@@ -25,32 +25,32 @@ Within n (bf s ∷ xs) m = (s ≡ n) × Within (suc n) xs m
 Within n (wi s k i ∷ xs) m = (suc s ≡ n) × Within n xs m
 Within n (ri s k i ∷ xs) m = (suc s ≡ n) × Within n xs m
 
-within-append : (n m q : ℕ) (xs ys : List Part) → Within n xs m → Within m ys q → Within n (xs ++ ys) q
-within-append n m q [] ys a b = subst (λ z. Within z ys q) (sym a) b
-within-append n m q (bf s ∷ xs) ys a b = (a.0, within-append (suc n) m q xs ys a.1 b)
-within-append n m q (wi s k i ∷ xs) ys a b = (a.0, within-append n m q xs ys a.1 b)
-within-append n m q (ri s k i ∷ xs) ys a b = (a.0, within-append n m q xs ys a.1 b)
+within_append : (n m q : ℕ) (xs ys : List Part) → Within n xs m → Within m ys q → Within n (xs ++ ys) q
+within_append n m q [] ys a b = subst (λ z. Within z ys q) (sym a) b
+within_append n m q (bf s ∷ xs) ys a b = (a.0, within_append (suc n) m q xs ys a.1 b)
+within_append n m q (wi s k i ∷ xs) ys a b = (a.0, within_append n m q xs ys a.1 b)
+within_append n m q (ri s k i ∷ xs) ys a b = (a.0, within_append n m q xs ys a.1 b)
 
-within-gather : (at : ℕ → ℕ) (f : ℕ → List Part) (n : ℕ) → ((k : ℕ) → Within (at k) (f k) (at (suc k))) → Within (at 0) (gather n f) (at n)
+within_gather : (at : ℕ → ℕ) (f : ℕ → List Part) (n : ℕ) → ((k : ℕ) → Within (at k) (f k) (at (suc k))) → Within (at 0) (gather n f) (at n)
 unfolding gather
-within-gather at f zero a = refl
-within-gather at f (suc n) a = within-append (at 0) (at n) (at (suc n)) (gather n f) (f n) (within-gather at f n a) (a n)
+within_gather at f zero a = refl
+within_gather at f (suc n) a = within_append (at 0) (at n) (at (suc n)) (gather n f) (f n) (within_gather at f n a) (a n)
 
-use-within : (side : Side) (s k i : ℕ) → Within (suc s) (useOf side s k i ∷ []) (suc s)
-use-within Side.Writers s k i = (refl, refl)
-use-within Side.Readers s k i = (refl, refl)
+use_within : (side : Side) (s k i : ℕ) → Within (suc s) (use_of side s k i ∷ []) (suc s)
+use_within Side.Writers s k i = (refl, refl)
+use_within Side.Readers s k i = (refl, refl)
 
 module _ (grid : Grid) (instances : List ℕ) (tasks : ℕ) where
-  side-within : (side : Side) (s : ℕ) → Within (suc s) (sideParts grid instances tasks side s) (suc s)
-  unfolding sideParts
-  side-within side s =
-      within-gather (λ k. suc s) _ tasks (λ k. within-gather (λ i. suc s) (λ i. useOf side s k i ∷ []) (usersOf grid instances side s k) (λ i. use-within side s k i))
+  side_within : (side : Side) (s : ℕ) → Within (suc s) (side_parts grid instances tasks side s) (suc s)
+  unfolding side_parts
+  side_within side s =
+      within_gather (λ k. suc s) _ tasks (λ k. within_gather (λ i. suc s) (λ i. use_of side s k i ∷ []) (users_of grid instances side s k) (λ i. use_within side s k i))
 
   pub parts_within : (n : ℕ) → Within 0 (parts_in grid instances tasks n) n
-  unfolding parts_in signalParts sidesParts
+  unfolding parts_in signal_parts sides_parts
   parts_within n =
-      within-gather (λ s. s) (signalParts grid instances tasks) n
-      (λ s. (refl, within-append (suc s) (suc s) (suc s) (sideParts grid instances tasks Side.Writers s) (sideParts grid instances tasks Side.Readers s) (side-within Side.Writers s) (side-within Side.Readers s)))
+      within_gather (λ s. s) (signal_parts grid instances tasks) n
+      (λ s. (refl, within_append (suc s) (suc s) (suc s) (side_parts grid instances tasks Side.Writers s) (side_parts grid instances tasks Side.Readers s) (side_within Side.Writers s) (side_within Side.Readers s)))
 
 -- ---- the sum so far
 
@@ -59,35 +59,35 @@ sum_of (Walk.Next p) = p.sum
 sum_of (Walk.Wrong a) = 0
 
 module _ (bytes : List ℕ) where
-  use-sum : (mark : List ℕ) (s k i : ℕ) (p : Place) → sum_of (useStep bytes mark s k i p) ≤ p.sum
-  unfolding useStep
-  use-sum mark s k i p =
+  use_sum : (mark : List ℕ) (s k i : ℕ) (p : Place) → sum_of (use_step bytes mark s k i p) ≤ p.sum
+  unfolding use_step
+  use_sum mark s k i p =
       over (λ w. sum_of w ≤ p.sum) _ _ _ zero-le
       (λ a. over (λ w. sum_of w ≤ p.sum) _ _ _ zero-le
       (λ b. over (λ w. sum_of w ≤ p.sum) _ _ _ zero-le
       (λ c. le_refl p.sum)))
 
-  signal-sum : (s : ℕ) (p : Place) → sum_of (signalStep bytes s p) ≤ p.sum + mostElements
-  unfolding signalStep
-  signal-sum s p =
-      over (λ w. sum_of w ≤ p.sum + mostElements) _ _ _ zero-le
-      (λ a. over (λ w. sum_of w ≤ p.sum + mostElements) _ _ _ zero-le
-      (λ b. over (λ w. sum_of w ≤ p.sum + mostElements) _ _ _ zero-le
-      (λ c. over (λ w. sum_of w ≤ p.sum + mostElements) _ _ _ zero-le
-      (λ d. omega (arith, ltb-false mostElements (byte_at bytes (p.at + 3)) d)))))
+  signal_sum : (s : ℕ) (p : Place) → sum_of (signal_step bytes s p) ≤ p.sum + most_elements
+  unfolding signal_step
+  signal_sum s p =
+      over (λ w. sum_of w ≤ p.sum + most_elements) _ _ _ zero-le
+      (λ a. over (λ w. sum_of w ≤ p.sum + most_elements) _ _ _ zero-le
+      (λ b. over (λ w. sum_of w ≤ p.sum + most_elements) _ _ _ zero-le
+      (λ c. over (λ w. sum_of w ≤ p.sum + most_elements) _ _ _ zero-le
+      (λ d. omega (arith, ltb-false most_elements (byte_at bytes (p.at + 3)) d)))))
 
-  sums : (xs : List Part) (n m : ℕ) (w : Walk) → Within n xs m → sum_of w ≤ mostElements * n → sum_of (walked (step bytes) xs w) ≤ mostElements * m
+  sums : (xs : List Part) (n m : ℕ) (w : Walk) → Within n xs m → sum_of w ≤ most_elements * n → sum_of (walked (step bytes) xs w) ≤ most_elements * m
   unfolding walked
   sums [] n m w a h = omega arith
   sums (bf s ∷ xs) n m (Walk.Wrong a) b h = sums xs (suc n) m (Walk.Wrong a) b.1 zero-le
   sums (wi s k i ∷ xs) n m (Walk.Wrong a) b h = sums xs n m (Walk.Wrong a) b.1 zero-le
   sums (ri s k i ∷ xs) n m (Walk.Wrong a) b h = sums xs n m (Walk.Wrong a) b.1 zero-le
-  sums (bf s ∷ xs) n m (Walk.Next p) a h = sums xs (suc n) m (signalStep bytes s p) a.1 (omega (arith, signal-sum s p))
-  sums (wi s k i ∷ xs) n m (Walk.Next p) a h = sums xs n m (useStep bytes WI s k i p) a.1 (omega (arith, use-sum WI s k i p))
-  sums (ri s k i ∷ xs) n m (Walk.Next p) a h = sums xs n m (useStep bytes RI s k i p) a.1 (omega (arith, use-sum RI s k i p))
+  sums (bf s ∷ xs) n m (Walk.Next p) a h = sums xs (suc n) m (signal_step bytes s p) a.1 (omega (arith, signal_sum s p))
+  sums (wi s k i ∷ xs) n m (Walk.Next p) a h = sums xs n m (use_step bytes WI s k i p) a.1 (omega (arith, use_sum WI s k i p))
+  sums (ri s k i ∷ xs) n m (Walk.Next p) a h = sums xs n m (use_step bytes RI s k i p) a.1 (omega (arith, use_sum RI s k i p))
 
   -- the sum after n signals
-  pub sum-small : (grid : Grid) (instances : List ℕ) (tasks n : ℕ) {p : Place} → Walk.Next p ≡ walked (step bytes) (parts_in grid instances tasks n) (Walk.Next (record { at = 0; count = 0; sum = 0 }))
-      → p.sum ≤ mostElements * n
-  sum-small grid instances tasks n e =
-      subst (λ w. sum_of w ≤ mostElements * n) (sym e) (sums (parts_in grid instances tasks n) 0 n _ (parts_within grid instances tasks n) zero-le)
+  pub sum_small : (grid : Grid) (instances : List ℕ) (tasks n : ℕ) {p : Place} → Walk.Next p ≡ walked (step bytes) (parts_in grid instances tasks n) (Walk.Next (record { at = 0; count = 0; sum = 0 }))
+      → p.sum ≤ most_elements * n
+  sum_small grid instances tasks n e =
+      subst (λ w. sum_of w ≤ most_elements * n) (sym e) (sums (parts_in grid instances tasks n) 0 n _ (parts_within grid instances tasks n) zero-le)

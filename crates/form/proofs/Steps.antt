@@ -16,32 +16,32 @@ use Rattle.rules.specs.Reading.{Grid}
 use Rattle.form.specs.declared.sides.Side.{Side}
 use Rattle.form.specs.declared.forms.Place.{Place}
 use Rattle.form.specs.declared.forms.Walk.{Walk}
-use Rattle.form.specs.Records.{markOf, permits, useOf, usersOf, instanceParts}
-use Rattle.form.specs.Form.{walked, step, useStep}
+use Rattle.form.specs.Records.{mark_of, permits, use_of, users_of, instance_parts}
+use Rattle.form.specs.Form.{walked, step, use_step}
 
 -- ---- tests and numbers
 
-pub same-eqb : {r t : ℕ} (n : ℕ) → r ≡ t → eqb r n ≡ eqb t n
-same-eqb n e = ap (λ x. eqb x n) e
+pub same_eqb : {r t : ℕ} (n : ℕ) → r ≡ t → eqb r n ≡ eqb t n
+same_eqb n e = ap (λ x. eqb x n) e
 
-pub all-times : (b : Bool) (n : ℕ) → b ≡ true → n ≡ times b n
-all-times true n e = refl
-all-times false n e = absurd (true≢false (sym e))
+pub all_times : (b : Bool) (n : ℕ) → b ≡ true → n ≡ times b n
+all_times true n e = refl
+all_times false n e = absurd (true≢false (sym e))
 
-pub no-times : (b : Bool) (n : ℕ) → b ≡ false → 0 ≡ times b n
-no-times true n e = absurd (true≢false e)
-no-times false n e = refl
+pub no_times : (b : Bool) (n : ℕ) → b ≡ false → 0 ≡ times b n
+no_times true n e = absurd (true≢false e)
+no_times false n e = refl
 
-times-le : (b : Bool) (n : ℕ) → times b n ≤ n
-times-le true n = le_refl n
-times-le false n = omega arith
+times_le : (b : Bool) (n : ℕ) → times b n ≤ n
+times_le true n = le_refl n
+times_le false n = omega arith
 
-pub users-few : (grid : Grid) (instances : List ℕ) (side : Side) (s k : ℕ) {r : ℕ} → r ≡ usersOf grid instances side s k → get_or instances k 0 ≤ longest → r ≤ longest
-unfolding usersOf
-users-few grid instances side s k e l = omega (arith, times-le (permits grid side s k) (get_or instances k 0))
+pub users_few : (grid : Grid) (instances : List ℕ) (side : Side) (s k : ℕ) {r : ℕ} → r ≡ users_of grid instances side s k → get_or instances k 0 ≤ longest → r ≤ longest
+unfolding users_of
+users_few grid instances side s k e l = omega (arith, times_le (permits grid side s k) (get_or instances k 0))
 
-pub permits-on : (grid : Grid) (side other : Side) (s k : ℕ) {r : Bool} → side ≡ other → r ≡ permits grid other s k → r ≡ permits grid side s k
-permits-on grid side other s k e h = h ∙ ap (λ x. permits grid x s k) (sym e)
+pub permits_on : (grid : Grid) (side other : Side) (s k : ℕ) {r : Bool} → side ≡ other → r ≡ permits grid other s k → r ≡ permits grid side s k
+permits_on grid side other s k e h = h ∙ ap (λ x. permits grid x s k) (sym e)
 
 -- one store more in a list that is filled from the front
 pub stored_more : (l : List ℕ) (k v : ℕ) (f : ℕ → ℕ) → k < length l → v ≡ f k → ((j : ℕ) → j < k → get_or l j 0 ≡ f j) → (j : ℕ) → j < k + 1 → get_or (set l k v) j 0 ≡ f j
@@ -52,13 +52,13 @@ stored_more l k v f h e a =
 
 -- ---- sums
 
-pub total-none : (f : ℕ → ℕ) → 0 ≡ total f 0
+pub total_none : (f : ℕ → ℕ) → 0 ≡ total f 0
 unfolding total
-total-none f = refl
+total_none f = refl
 
-pub total-turn : (f : ℕ → ℕ) (n : ℕ) {v x r : ℕ} → v ≡ total f n → x ≡ f n → r ≡ v + x → r ≡ total f (n + 1)
+pub total_turn : (f : ℕ → ℕ) (n : ℕ) {v x r : ℕ} → v ≡ total f n → x ≡ f n → r ≡ v + x → r ≡ total f (n + 1)
 unfolding total
-total-turn f n e h q = q ∙ ap₂ ◌+◌ e h ∙ ap (total f) (sym (add-one n))
+total_turn f n e h q = q ∙ ap₂ ◌+◌ e h ∙ ap (total f) (sym (add-one n))
 
 -- ---- records
 
@@ -67,13 +67,13 @@ summed at count sum e = ap (λ b. Walk.Next (record { at = at; count = count; su
 
 module _ (bytes : List ℕ) where
   -- one instance
-  pub use-walked : (side : Side) (s k i : ℕ) (p : Place) {mark : List ℕ} {r x : Walk} → mark ≡ markOf side → r ≡ useStep bytes mark s k i p → r ≡ x
-      → x ≡ walked (step bytes) (useOf side s k i ∷ []) (Walk.Next p)
+  pub use_walked : (side : Side) (s k i : ℕ) (p : Place) {mark : List ℕ} {r x : Walk} → mark ≡ mark_of side → r ≡ use_step bytes mark s k i p → r ≡ x
+      → x ≡ walked (step bytes) (use_of side s k i ∷ []) (Walk.Next p)
   unfolding walked
-  use-walked Side.Writers s k i p e h q = sym q ∙ h ∙ ap (λ m. useStep bytes m s k i p) e
-  use-walked Side.Readers s k i p e h q = sym q ∙ h ∙ ap (λ m. useStep bytes m s k i p) e
+  use_walked Side.Writers s k i p e h q = sym q ∙ h ∙ ap (λ m. use_step bytes m s k i p) e
+  use_walked Side.Readers s k i p e h q = sym q ∙ h ∙ ap (λ m. use_step bytes m s k i p) e
 
   -- the instances of one task
-  pub task-walked : (grid : Grid) (instances : List ℕ) (side : Side) (s k : ℕ) (p : Place) {n : ℕ} {r x : Walk} → n ≡ usersOf grid instances side s k
-      → r ≡ walked (step bytes) (instanceParts side s k n) (Walk.Next p) → r ≡ x → x ≡ walked (step bytes) (instanceParts side s k (usersOf grid instances side s k)) (Walk.Next p)
-  task-walked grid instances side s k p e h q = sym q ∙ h ∙ ap (λ n. walked (step bytes) (instanceParts side s k n) (Walk.Next p)) e
+  pub task_walked : (grid : Grid) (instances : List ℕ) (side : Side) (s k : ℕ) (p : Place) {n : ℕ} {r x : Walk} → n ≡ users_of grid instances side s k
+      → r ≡ walked (step bytes) (instance_parts side s k n) (Walk.Next p) → r ≡ x → x ≡ walked (step bytes) (instance_parts side s k (users_of grid instances side s k)) (Walk.Next p)
+  task_walked grid instances side s k p e h q = sym q ∙ h ∙ ap (λ n. walked (step bytes) (instance_parts side s k n) (Walk.Next p)) e

@@ -1,34 +1,34 @@
 -- The records of a schedule as the code walks them: by the grid, and by the number of instances of each task. Assumes nothing.
 use Rattle.std.specs.Prelude.{◌≡◌, Bool, List, [], ◌∷◌, ◌++◌, ℕ, ◌+◌, ◌*◌, ◌/◌, ◌≤◌, ◌<◌, get_or}
 use Rattle.rules.specs.Words.{total, gather, times}
-use Rattle.rules.specs.Windows.{lcmAll}
-use Rattle.rules.specs.Table.{mostTasks, mostSignals, longest}
+use Rattle.rules.specs.Windows.{lcm_all}
+use Rattle.rules.specs.Table.{most_tasks, most_signals, longest}
 use Rattle.rules.specs.Fields.{WI, RI}
 use Rattle.rules.specs.Bytes.{Part, bf, wi, ri}
-use Rattle.rules.specs.Reading.{Grid, writesIn, readsIn, task_of}
+use Rattle.rules.specs.Reading.{Grid, writes_in, reads_in, task_of}
 use Rattle.rules.specs.declared.Tasks.{Tasks}
 use Rattle.windows.specs.Windowed.{AllWindowed}
 use Rattle.form.specs.declared.sides.Side.{Side}
 
 -- ---- the two sides of a signal
 
-abbrev pub markOf : Side → List ℕ
-markOf Side.Writers = WI
-markOf Side.Readers = RI
+abbrev pub mark_of : Side → List ℕ
+mark_of Side.Writers = WI
+mark_of Side.Readers = RI
 
 abbrev pub permits : Grid → Side → ℕ → ℕ → Bool
-permits grid Side.Writers = writesIn grid
-permits grid Side.Readers = readsIn grid
+permits grid Side.Writers = writes_in grid
+permits grid Side.Readers = reads_in grid
 
-abbrev pub useOf : Side → ℕ → ℕ → ℕ → Part
-useOf Side.Writers = wi
-useOf Side.Readers = ri
+abbrev pub use_of : Side → ℕ → ℕ → ℕ → Part
+use_of Side.Writers = wi
+use_of Side.Readers = ri
 
 -- ---- what the code has of an accepted table
 
 -- windows fit, counts are in their bounds, and so is the hyper-period
 abbrev pub Ready : Tasks → ℕ → ℕ → Type 0
-Ready tasks signals h = (tasks.count ≤ mostTasks) × AllWindowed tasks × (signals ≤ mostSignals) × (h ≡ lcmAll (λ k. (task_of tasks k).period) tasks.count) × (h ≤ longest)
+Ready tasks signals h = (tasks.count ≤ most_tasks) × AllWindowed tasks × (signals ≤ most_signals) × (h ≡ lcm_all (λ k. (task_of tasks k).period) tasks.count) × (h ≤ longest)
 
 -- the number of instances of each task
 abbrev pub Instances : Tasks → ℕ → List ℕ → Type 0
@@ -38,50 +38,50 @@ abbrev pub Short : ℕ → List ℕ → Type 0
 Short tasks instances = (k : ℕ) → k < tasks → get_or instances k 0 ≤ longest
 
 -- the bytes of each record with its mark
-abbrev pub bfBytes : ℕ
-bfBytes = 4
+abbrev pub bf_bytes : ℕ
+bf_bytes = 4
 
-abbrev pub useBytes : ℕ
-useBytes = 7
+abbrev pub use_bytes : ℕ
+use_bytes = 7
 
-abbrev pub enBytes : ℕ
-enBytes = 2
+abbrev pub en_bytes : ℕ
+en_bytes = 2
 
 -- the most bytes that the records of one signal can take
-abbrev pub longestSignal : ℕ
-longestSignal = bfBytes + useBytes * (2 * (mostTasks * longest))
+abbrev pub longest_signal : ℕ
+longest_signal = bf_bytes + use_bytes * (2 * (most_tasks * longest))
 
 -- the records of n instances of task k
-abbrev pub instanceParts : Side → ℕ → ℕ → ℕ → List Part
-instanceParts side s k n = gather n (λ i. useOf side s k i ∷ [])
+abbrev pub instance_parts : Side → ℕ → ℕ → ℕ → List Part
+instance_parts side s k n = gather n (λ i. use_of side s k i ∷ [])
 
 module _ (grid : Grid) (instances : List ℕ) where
   -- how many records task k has for signal s on this side
-  unfoldable pub usersOf : Side → ℕ → ℕ → ℕ
-  usersOf side s k = times (permits grid side s k) (get_or instances k 0)
+  unfoldable pub users_of : Side → ℕ → ℕ → ℕ
+  users_of side s k = times (permits grid side s k) (get_or instances k 0)
 
   -- and the tasks below n together
-  unfoldable pub usersBelow : Side → ℕ → ℕ → ℕ
-  usersBelow side s n = total (usersOf side s) n
+  unfoldable pub users_below : Side → ℕ → ℕ → ℕ
+  users_below side s n = total (users_of side s) n
 
   -- the bytes of the records of signal s
-  unfoldable pub signalBytes : ℕ → ℕ → ℕ
-  signalBytes tasks s = bfBytes + useBytes * (usersBelow Side.Writers s tasks + usersBelow Side.Readers s tasks)
+  unfoldable pub signal_bytes : ℕ → ℕ → ℕ
+  signal_bytes tasks s = bf_bytes + use_bytes * (users_below Side.Writers s tasks + users_below Side.Readers s tasks)
 
   -- ---- the records one after the other
 
   -- of one side of signal s
-  unfoldable pub sideParts : ℕ → Side → ℕ → List Part
-  sideParts tasks side s = gather tasks (λ k. instanceParts side s k (usersOf side s k))
+  unfoldable pub side_parts : ℕ → Side → ℕ → List Part
+  side_parts tasks side s = gather tasks (λ k. instance_parts side s k (users_of side s k))
 
   -- of both, the writers first
-  unfoldable pub sidesParts : ℕ → ℕ → List Part
-  sidesParts tasks s = sideParts tasks Side.Writers s ++ sideParts tasks Side.Readers s
+  unfoldable pub sides_parts : ℕ → ℕ → List Part
+  sides_parts tasks s = side_parts tasks Side.Writers s ++ side_parts tasks Side.Readers s
 
   -- of signal s
-  unfoldable pub signalParts : ℕ → ℕ → List Part
-  signalParts tasks s = bf s ∷ sidesParts tasks s
+  unfoldable pub signal_parts : ℕ → ℕ → List Part
+  signal_parts tasks s = bf s ∷ sides_parts tasks s
 
   -- of all signals
   unfoldable pub parts_in : ℕ → ℕ → List Part
-  parts_in tasks signals = gather signals (signalParts tasks)
+  parts_in tasks signals = gather signals (signal_parts tasks)

@@ -1,13 +1,13 @@
 // The form of a schedule that was made elsewhere: every byte that the table fixes, every count and every element, in one pass.
 ghost use Rattle.std.specs.Prelude.{◌≡◌, [], ◌∷◌, ◌<◌, ◌≤◌, ◌*◌, ◌+◌, length};
-ghost use Rattle.rules.specs.Table.{mostTasks, mostSignals, mostElements};
+ghost use Rattle.rules.specs.Table.{most_tasks, most_signals, most_elements};
 ghost use Rattle.rules.specs.Numbers.{told};
 ghost use Rattle.rules.specs.Reading.{table_of};
 ghost use Rattle.rules.specs.declared.Signals.{Signals};
 ghost use Rattle.form.specs.declared.forms.Walk.{Walk};
 ghost use Rattle.form.specs.declared.sides.Side.{Side};
-ghost use Rattle.form.specs.Records.{Ready, bfBytes, useBytes, markOf, instanceParts, sideParts, sidesParts, signalParts, parts_in};
-ghost use Rattle.form.specs.Form.{formSays, bfStands, instanceStands, useStands, signalStep, useStep, walked, step, endStep};
+ghost use Rattle.form.specs.Records.{Ready, bf_bytes, use_bytes, mark_of, instance_parts, side_parts, sides_parts, signal_parts, parts_in};
+ghost use Rattle.form.specs.Form.{form_says, bf_stands, instance_stands, use_stands, signal_step, use_step, walked, step, end_step};
 
 use crate::sides::{Side, instances_of, mark_of, users};
 use fields::{holds, marked, wide};
@@ -42,7 +42,7 @@ pub fn form(
     bytes: &[u8],
 ) -> Answer
     requires { Ready tasks signals hyper }
-    ensures { (S : Signals) → S.count ≡ signals → told result ≡ formSays (table_of tasks S grid.now) bytes.now }
+    ensures { (S : Signals) → S.count ≡ signals → told result ≡ form_says (table_of tasks S grid.now) bytes.now }
 {
     let instances = instances_of(tasks, hyper);
     match records(grid, &instances, tasks.count, signals, bytes) {
@@ -53,7 +53,7 @@ pub fn form(
 
 // After the last record: EN, no byte more, and the sum of the counts.
 fn end(bytes: &[u8], place: Place) -> Answer
-    ensures { result ≡ endStep bytes.now place }
+    ensures { result ≡ end_step bytes.now place }
 {
     let at = place.at;
     if !holds(bytes, at, EN_BYTES) {
@@ -78,7 +78,7 @@ fn records(
     signals: usize,
     bytes: &[u8],
 ) -> Walk
-    requires { (tasks ≤ mostTasks) × (signals ≤ mostSignals) }
+    requires { (tasks ≤ most_tasks) × (signals ≤ most_signals) }
     ensures { result ≡ walked (step bytes.now) (parts_in grid.now instances.now tasks signals) (Walk.Next (record { at = 0; count = 0; sum = 0 })) }
 {
     let mut place = Place {
@@ -110,8 +110,8 @@ fn signal_records(
     bytes: &[u8],
     from: Place,
 ) -> Walk
-    requires { (tasks ≤ mostTasks) × (signal < mostSignals) × (from.sum ≤ mostElements * mostSignals) }
-    ensures { result ≡ walked (step bytes.now) (signalParts grid.now instances.now tasks signal) (Walk.Next from) }
+    requires { (tasks ≤ most_tasks) × (signal < most_signals) × (from.sum ≤ most_elements * most_signals) }
+    ensures { result ≡ walked (step bytes.now) (signal_parts grid.now instances.now tasks signal) (Walk.Next from) }
 {
     match signal_record(signal, bytes, from) {
         Walk::Next(place) => both_sides(grid, instances, tasks, signal, bytes, place),
@@ -127,8 +127,8 @@ fn both_sides(
     bytes: &[u8],
     from: Place,
 ) -> Walk
-    requires { (tasks ≤ mostTasks) × (signal < mostSignals) }
-    ensures { result ≡ walked (step bytes.now) (sidesParts grid.now instances.now tasks signal) (Walk.Next from) }
+    requires { (tasks ≤ most_tasks) × (signal < most_signals) }
+    ensures { result ≡ walked (step bytes.now) (sides_parts grid.now instances.now tasks signal) (Walk.Next from) }
 {
     match side_records(grid, instances, tasks, signal, Side::Writers, bytes, from) {
         Walk::Next(place) => {
@@ -148,8 +148,8 @@ fn side_records(
     bytes: &[u8],
     from: Place,
 ) -> Walk
-    requires { (tasks ≤ mostTasks) × (signal < mostSignals) }
-    ensures { result ≡ walked (step bytes.now) (sideParts grid.now instances.now tasks side signal) (Walk.Next from) }
+    requires { (tasks ≤ most_tasks) × (signal < most_signals) }
+    ensures { result ≡ walked (step bytes.now) (side_parts grid.now instances.now tasks side signal) (Walk.Next from) }
 {
     let mark = mark_of(side);
     let mut place = from;
@@ -178,7 +178,7 @@ fn instance_records(
     bytes: &[u8],
     from: Place,
 ) -> Walk
-    ensures { (side : Side) → mark ≡ markOf side → result ≡ walked (step bytes.now) (instanceParts side signal task records) (Walk.Next from) }
+    ensures { (side : Side) → mark ≡ mark_of side → result ≡ walked (step bytes.now) (instance_parts side signal task records) (Walk.Next from) }
 {
     let mut place = from;
     let mut i: usize = 0;
@@ -198,8 +198,8 @@ fn instance_records(
 
 // A signal's record. Its count is known from here on, before any element is compared with it.
 fn signal_record(signal: usize, bytes: &[u8], from: Place) -> Walk
-    requires { from.sum ≤ mostElements * mostSignals }
-    ensures { result ≡ signalStep bytes.now signal from }
+    requires { from.sum ≤ most_elements * most_signals }
+    ensures { result ≡ signal_step bytes.now signal from }
 {
     let at = from.at;
     if !holds(bytes, at, BF_BYTES) {
@@ -231,7 +231,7 @@ fn use_record(
     bytes: &[u8],
     from: Place,
 ) -> Walk
-    ensures { result ≡ useStep bytes.now mark signal task instance from }
+    ensures { result ≡ use_step bytes.now mark signal task instance from }
 {
     let at = from.at;
     if !holds(bytes, at, USE_BYTES) {
@@ -251,8 +251,8 @@ fn use_record(
 }
 
 fn bf_stands(signal: usize, bytes: &[u8], at: usize) -> bool
-    requires { at + bfBytes ≤ length bytes.now }
-    ensures { result ≡ bfStands bytes.now at signal }
+    requires { at + bf_bytes ≤ length bytes.now }
+    ensures { result ≡ bf_stands bytes.now at signal }
 {
     if bytes[at] != BF[0] {
         return false;
@@ -271,8 +271,8 @@ fn use_stands(
     bytes: &[u8],
     at: usize,
 ) -> bool
-    requires { at + useBytes ≤ length bytes.now }
-    ensures { result ≡ useStands bytes.now at mark signal task instance }
+    requires { at + use_bytes ≤ length bytes.now }
+    ensures { result ≡ use_stands bytes.now at mark signal task instance }
 {
     if bytes[at] != mark[0] {
         return false;
@@ -291,8 +291,8 @@ fn use_stands(
 
 // The instance's two bytes, high byte first.
 fn instance_stands(instance: usize, bytes: &[u8], at: usize) -> bool
-    requires { at + useBytes ≤ length bytes.now }
-    ensures { result ≡ instanceStands bytes.now at instance }
+    requires { at + use_bytes ≤ length bytes.now }
+    ensures { result ≡ instance_stands bytes.now at instance }
 {
     let high = instance / 256;
     let low = instance % 256;

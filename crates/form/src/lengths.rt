@@ -1,12 +1,12 @@
 // The length of a schedule, which the table alone decides.
 ghost use Rattle.std.specs.Prelude.{◌≡◌, ◌<◌, ◌≤◌, ◌*◌, ◌+◌};
 ghost use Rattle.rules.specs.Words.{total};
-ghost use Rattle.rules.specs.Table.{mostTasks, mostSignals, longest};
-ghost use Rattle.rules.specs.Bytes.{scheduleLength};
+ghost use Rattle.rules.specs.Table.{most_tasks, most_signals, longest};
+ghost use Rattle.rules.specs.Bytes.{schedule_length};
 ghost use Rattle.rules.specs.Reading.{table_of};
 ghost use Rattle.rules.specs.declared.Signals.{Signals};
 ghost use Rattle.form.specs.declared.sides.Side.{Side};
-ghost use Rattle.form.specs.Records.{longestSignal, usersBelow, signalBytes, Short, Ready};
+ghost use Rattle.form.specs.Records.{longest_signal, users_below, signal_bytes, Short, Ready};
 
 use crate::sides::{Side, instances_of, users};
 use rules::{BF_BYTES, EN_BYTES, MOST_SIGNALS, MOST_TASKS, Tasks, USE_BYTES};
@@ -19,7 +19,7 @@ pub fn length(
     hyper: u32,
 ) -> usize
     requires { Ready tasks signals hyper }
-    ensures { (S : Signals) → S.count ≡ signals → result ≡ scheduleLength (table_of tasks S grid.now) }
+    ensures { (S : Signals) → S.count ≡ signals → result ≡ schedule_length (table_of tasks S grid.now) }
 {
     let instances = instances_of(tasks, hyper);
     signals_length(grid, &instances, tasks.count, signals) + EN_BYTES
@@ -31,9 +31,9 @@ fn signals_length(
     tasks: usize,
     signals: usize,
 ) -> usize
-    requires { (tasks ≤ mostTasks) × (signals ≤ mostSignals) × Short tasks instances.now }
-    ensures is { result ≡ total (signalBytes grid.now instances.now tasks) signals }
-    ensures short { result ≤ signals * longestSignal }
+    requires { (tasks ≤ most_tasks) × (signals ≤ most_signals) × Short tasks instances.now }
+    ensures is { result ≡ total (signal_bytes grid.now instances.now tasks) signals }
+    ensures short { result ≤ signals * longest_signal }
 {
     let mut bytes: usize = 0;
     let mut s: usize = 0;
@@ -50,9 +50,9 @@ fn signal_length(
     tasks: usize,
     signal: usize,
 ) -> usize
-    requires { (tasks ≤ mostTasks) × (signal < mostSignals) × Short tasks instances.now }
-    ensures is { result ≡ signalBytes grid.now instances.now tasks signal }
-    ensures short { result ≤ longestSignal }
+    requires { (tasks ≤ most_tasks) × (signal < most_signals) × Short tasks instances.now }
+    ensures is { result ≡ signal_bytes grid.now instances.now tasks signal }
+    ensures short { result ≤ longest_signal }
 {
     let writers = users_in_all(grid, instances, tasks, signal, Side::Writers);
     let readers = users_in_all(grid, instances, tasks, signal, Side::Readers);
@@ -67,8 +67,8 @@ fn users_in_all(
     signal: usize,
     side: Side,
 ) -> usize
-    requires { (tasks ≤ mostTasks) × (signal < mostSignals) × Short tasks instances.now }
-    ensures is { result ≡ usersBelow grid.now instances.now side signal tasks }
+    requires { (tasks ≤ most_tasks) × (signal < most_signals) × Short tasks instances.now }
+    ensures is { result ≡ users_below grid.now instances.now side signal tasks }
     ensures short { result ≤ tasks * longest }
 {
     let mut records: usize = 0;

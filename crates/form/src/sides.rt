@@ -1,8 +1,8 @@
 // The writer records and the reader records of a signal: they differ in their mark and in the right that a task needs.
 ghost use Rattle.std.specs.Prelude.{◌≡◌, ◌<◌, ◌≤◌};
-ghost use Rattle.rules.specs.Table.{mostTasks, mostSignals};
+ghost use Rattle.rules.specs.Table.{most_tasks, most_signals};
 ghost use Rattle.windows.specs.Windowed.{AllWindowed};
-ghost use Rattle.form.specs.Records.{markOf, permits, usersOf, Instances};
+ghost use Rattle.form.specs.Records.{mark_of, permits, users_of, Instances};
 
 use rules::{MOST_SIGNALS, MOST_TASKS, RI, Tasks, WI};
 
@@ -13,7 +13,7 @@ pub enum Side {
 }
 
 pub fn mark_of(side: Side) -> [u8; 2]
-    ensures { result ≡ markOf side }
+    ensures { result ≡ mark_of side }
 {
     match side {
         Side::Writers => WI,
@@ -28,7 +28,7 @@ pub fn permitted(
     signal: usize,
     side: Side,
 ) -> bool
-    requires { (task < mostTasks) × (signal < mostSignals) }
+    requires { (task < most_tasks) × (signal < most_signals) }
     ensures { result ≡ permits grid.now side signal task }
 {
     match side {
@@ -45,8 +45,8 @@ pub fn users(
     signal: usize,
     side: Side,
 ) -> usize
-    requires { (task < mostTasks) × (signal < mostSignals) }
-    ensures { result ≡ usersOf grid.now instances.now side signal task }
+    requires { (task < most_tasks) × (signal < most_signals) }
+    ensures { result ≡ users_of grid.now instances.now side signal task }
 {
     if permitted(grid, task, signal, side) {
         instances[task]
@@ -57,7 +57,7 @@ pub fn users(
 
 // The instances of each task in a hyper-period, divided once here so that no walk over records divides.
 pub fn instances_of(tasks: Tasks, hyper: u32) -> [usize; MOST_TASKS]
-    requires { (tasks.count ≤ mostTasks) × AllWindowed tasks }
+    requires { (tasks.count ≤ most_tasks) × AllWindowed tasks }
     ensures { Instances tasks hyper result }
 {
     let mut instances = [0usize; MOST_TASKS];

@@ -8,11 +8,11 @@ use lib.ListN.{length, get_or, set, drop, length-set}
 use lib.Seq.{get_or-set_same, get_or-set_other}
 use lib.Dec.{eqb}
 use borrow.Author.Tests.{eqb-true, eqb-false}
-use Rattle.rules.specs.Table.{mostValues}
+use Rattle.rules.specs.Table.{most_values}
 use Rattle.theory.proofs.Tests.{split}
 use Rattle.lives.specs.declared.LiveValue.{LiveValue}
 use Rattle.lives.specs.declared.Lives.{Lives}
-use Rattle.lives.specs.Values.{recordIn, filledFrom, firsts, value_at, filled}
+use Rattle.lives.specs.Values.{record_in, filled_from, firsts, value_at, filled}
 
 module _ (ws : List ℕ) (k a b c d e : ℕ) where
   abbrev one : List ℕ
@@ -41,7 +41,7 @@ module _ (ws : List ℕ) (k a b c d e : ℕ) where
       ∙ get_or-set_other one (k * 5 + 1) p b 0 (λ q. away 1 (omega arith) q)
       ∙ get_or-set_other ws (k * 5) p a 0 (λ q. away 0 (omega arith) (omega arith))
 
-  pub others : (j : ℕ) → (j ≡ k → ⊥) → recordIn stored j ≡ recordIn ws j
+  pub others : (j : ℕ) → (j ≡ k → ⊥) → record_in stored j ≡ record_in ws j
   others j n = λ i. record {
     task = (ap (λ (x : ℕ). x % 256) (kept (j * 5) (λ g l q. n (omega arith)))) i;
     instance = (ap (λ (x : ℕ). x % 65536) (kept (j * 5 + 1) (λ g l q. n (omega arith)))) i;
@@ -84,7 +84,7 @@ module _ (ws : List ℕ) (k a b c d e : ℕ) where
         ∙ get_or-set_same ws (k * 5) a 0 (omega arith)
 
     -- numbers of their widths are read back as they are
-    pub same : (v : LiveValue) → (a ≡ v.task) × (a < 256) → (b ≡ v.instance) × (b < 65536) → c ≡ v.from → d ≡ v.until → (e ≡ v.element) × (e < 256) → recordIn stored k ≡ v
+    pub same : (v : LiveValue) → (a ≡ v.task) × (a < 256) → (b ≡ v.instance) × (b < 65536) → c ≡ v.from → d ≡ v.until → (e ≡ v.element) × (e < 256) → record_in stored k ≡ v
     same v t n f u m = λ i. record {
       task = (ap (λ (x : ℕ). x % 256) g₀ ∙ mod-eq_of_lt t.1 ∙ t.0) i;
       instance = (ap (λ (x : ℕ). x % 65536) g₁ ∙ mod-eq_of_lt n.1 ∙ n.0) i;
@@ -98,13 +98,13 @@ firsts_same : (f g : ℕ → LiveValue) (n : ℕ) → ((k : ℕ) → k < n → f
 firsts_same f g zero h = refl
 firsts_same f g (suc n) h = λ i. firsts_same f g n (λ k l. h k (omega arith)) i ++ (h n (omega arith) i ∷ [])
 
-pub filled-same : (lives : Lives) (ws : List ℕ) (n : ℕ) (ys : List LiveValue) → n ≤ mostValues → ((k : ℕ) → k < mostValues → recordIn ws k ≡ value_at lives k) → filledFrom ws n ys ≡ filled lives n ys
-filled-same lives ws n ys h p = ap (λ (l : List LiveValue). l ++ drop n ys) (firsts_same (recordIn ws) (value_at lives) n (λ k l. p k (omega arith)))
+pub filled_same : (lives : Lives) (ws : List ℕ) (n : ℕ) (ys : List LiveValue) → n ≤ most_values → ((k : ℕ) → k < most_values → record_in ws k ≡ value_at lives k) → filled_from ws n ys ≡ filled lives n ys
+filled_same lives ws n ys h p = ap (λ (l : List LiveValue). l ++ drop n ys) (firsts_same (record_in ws) (value_at lives) n (λ k l. p k (omega arith)))
 
 -- one record more
-pub one_more : (lives : Lives) (ws after : List ℕ) (k : ℕ) → ((j : ℕ) → j < k → recordIn ws j ≡ value_at lives j) → recordIn after k ≡ value_at lives k → ((j : ℕ) → (j ≡ k → ⊥) → recordIn after j ≡ recordIn ws j)
-    → (j : ℕ) → j < k + 1 → recordIn after j ≡ value_at lives j
+pub one_more : (lives : Lives) (ws after : List ℕ) (k : ℕ) → ((j : ℕ) → j < k → record_in ws j ≡ value_at lives j) → record_in after k ≡ value_at lives k → ((j : ℕ) → (j ≡ k → ⊥) → record_in after j ≡ record_in ws j)
+    → (j : ℕ) → j < k + 1 → record_in after j ≡ value_at lives j
 one_more lives ws after k below this rest j h =
     split (eqb j k)
-    (λ q. let e = eqb-true j k q in subst (λ (m : ℕ). recordIn after m ≡ value_at lives m) (sym e) this)
+    (λ q. let e = eqb-true j k q in subst (λ (m : ℕ). record_in after m ≡ value_at lives m) (sym e) this)
     (λ q. let z = eqb-false j k q in rest j z ∙ below j (omega arith))

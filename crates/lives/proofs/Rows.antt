@@ -24,5 +24,5 @@ pub tells : Tells R (Is R) vals
 tells = LL.tells T.the_type T'.the_laws
 
 -- an element's place is within a usize
-pub place-fits : (i n : ℕ) → i < n → n * bytes < 2 ^ 63 → i * bytes < 2 ^ 64
-place-fits i n l room = omega arith
+pub place_fits : (i n : ℕ) → i < n → n * bytes < 2 ^ 63 → i * bytes < 2 ^ 64
+place_fits i n l room = omega arith

@@ -8,109 +8,109 @@ use lib.ListN.{length, get_or, drop, replicate, length-map, get_or-append}
 use borrow.Author.Tests.{le-leb, eq-eqb, ne_eqb}
 use Rattle.rules.specs.Words.{gather}
 use Rattle.rules.specs.Windows.{Table, hyper}
-use Rattle.rules.specs.Table.{mostValues, Fits}
-use Rattle.rules.specs.Plan.{line_of, lines, liveList}
-use Rattle.rules.specs.Numbers.{Told, tell, told, allDone}
-use Rattle.rules.specs.Answers.{liveSays}
-use Rattle.rules.specs.Reading.{Grid, table_of, gridIn, tableIn, readSays, tableRead}
+use Rattle.rules.specs.Table.{most_values, Fits}
+use Rattle.rules.specs.Plan.{line_of, lines, live_list}
+use Rattle.rules.specs.Numbers.{Told, tell, told, all_done}
+use Rattle.rules.specs.Answers.{live_says}
+use Rattle.rules.specs.Reading.{Grid, table_of, grid_in, table_in, read_says, table_read}
 use Rattle.rules.specs.declared.Answer.{Answer}
 use Rattle.theory.proofs.Tests.{past, here}
-use Rattle.theory.proofs.Listed.{listed, listed-is}
-use Rattle.theory.proofs.Answered.{live-answers}
-use Rattle.theory.proofs.Proved.{whatever-is-read-keeps}
-use Rattle.table.specs.Said.{tableSaid}
+use Rattle.theory.proofs.Listed.{listed, listed_is}
+use Rattle.theory.proofs.Answered.{live_answers}
+use Rattle.theory.proofs.Proved.{whatever_is_read_keeps}
+use Rattle.table.specs.Said.{table_said}
 use Rattle.table.specs.declared.reading.TableRead.{TableRead}
-use Rattle.table.proofs.Exact.{answer-says, table_is, hyper-read}
+use Rattle.table.proofs.Exact.{answer_says, table_is, hyper_read_lem}
 use Rattle.lives.specs.declared.LiveValue.{LiveValue}
 use Rattle.lives.specs.declared.Lives.{Lives}
-use Rattle.lives.specs.Lives.{value_of, liveValues, liveTold, liveFront}
+use Rattle.lives.specs.Lives.{value_of, live_values, live_told, live_front}
 use Rattle.lives.specs.Values.{blank, padded, Asked, firsts, value_at, filled, Fills}
 
 -- the values in the array's first places are the list
-firsts-listed : (f : ℕ → LiveValue) (n : ℕ) → firsts f n ≡ listed f n
+firsts_listed : (f : ℕ → LiveValue) (n : ℕ) → firsts f n ≡ listed f n
 unfolding gather
-firsts-listed f zero = refl
-firsts-listed f (suc n) = ap (λ (l : List LiveValue). l ++ f n ∷ []) (firsts-listed f n)
+firsts_listed f zero = refl
+firsts_listed f (suc n) = ap (λ (l : List LiveValue). l ++ f n ∷ []) (firsts_listed f n)
 
 filled_is : (lives : Lives) (xs ys : List LiveValue) → lives.count ≡ length xs → lives.values ≡ padded xs → filled lives lives.count ys ≡ xs ++ drop (length xs) ys
 filled_is lives xs ys n e =
     ap₂ (λ (l : List LiveValue) (k : ℕ). l ++ drop k ys)
-    (firsts-listed (value_at lives) lives.count ∙ listed-is blank (value_at lives) lives.count xs n (λ k h.
-    ap (λ (l : List LiveValue). get_or l k blank) e ∙ get_or-append xs (replicate (mostValues - length xs) blank) blank k h))
+    (firsts_listed (value_at lives) lives.count ∙ listed_is blank (value_at lives) lives.count xs n (λ k h.
+    ap (λ (l : List LiveValue). get_or l k blank) e ∙ get_or-append xs (replicate (most_values - length xs) blank) blank k h))
     n
 
 -- a refusal fills nothing in
-refuses : (table : List ℕ) (s room : ℕ) (a : Answer) → told a ≡ liveTold table s room → ((told a).number ≡ allDone → ⊥) → Fills table s room (record { answer = a; values = replicate mostValues blank; count = 0 })
-unfolding liveFront
+refuses : (table : List ℕ) (s room : ℕ) (a : Answer) → told a ≡ live_told table s room → ((told a).number ≡ all_done → ⊥) → Fills table s room (record { answer = a; values = replicate most_values blank; count = 0 })
+unfolding live_front
 refuses table s room a e n = record {
   says = e;
-  fills = λ ys. sym (past (eqb (liveTold table s room).number allDone) _ _ (ne_eqb (liveTold table s room).number allDone (λ z. n (ap (λ (t : Told). t.number) e ∙ z))));
+  fills = λ ys. sym (past (eqb (live_told table s room).number all_done) _ _ (ne_eqb (live_told table s room).number all_done (λ z. n (ap (λ (t : Told). t.number) e ∙ z))));
   lent = omega arith;
   few = omega arith;
 }
 
-pub length-lives : (tab : Table) (s : ℕ) → length (liveValues tab s) ≡ length (liveList tab s)
-unfolding liveValues
-length-lives tab s = length-map (lines tab s) value_of ∙ length-map (liveList tab s) line_of
+pub length_lives : (tab : Table) (s : ℕ) → length (live_values tab s) ≡ length (live_list tab s)
+unfolding live_values
+length_lives tab s = length-map (lines tab s) value_of ∙ length-map (live_list tab s) line_of
 
-module _ (table : List ℕ) (r : TableRead) (e : tableSaid r ≡ tableRead table) where
-  answered : (told r.answer).number ≡ (readSays table).number
-  answered = ap (λ (t : Told). t.number) (answer-says table r e)
+module _ (table : List ℕ) (r : TableRead) (e : table_said r ≡ table_read table) where
+  answered : (told r.answer).number ≡ (read_says table).number
+  answered = ap (λ (t : Told). t.number) (answer_says table r e)
 
-  pub refused : (s room : ℕ) → ((told r.answer).number ≡ allDone → ⊥) → Fills table s room (record { answer = r.answer; values = replicate mostValues blank; count = 0 })
-  unfolding liveTold
-  refused s room n = refuses table s room r.answer (answer-says table r e ∙ sym (past (eqb (readSays table).number allDone) _ _ (ne_eqb _ _ (λ z. n (answered ∙ z))))) n
+  pub refused : (s room : ℕ) → ((told r.answer).number ≡ all_done → ⊥) → Fills table s room (record { answer = r.answer; values = replicate most_values blank; count = 0 })
+  unfolding live_told
+  refused s room n = refuses table s room r.answer (answer_says table r e ∙ sym (past (eqb (read_says table).number all_done) _ _ (ne_eqb _ _ (λ z. n (answered ∙ z))))) n
 
-  module _ (z : (told r.answer).number ≡ allDone) where
-    done : (readSays table).number ≡ allDone
+  module _ (z : (told r.answer).number ≡ all_done) where
+    done : (read_says table).number ≡ all_done
     done = sym answered ∙ z
 
     abbrev tab : Table
-    tab = tableIn table
+    tab = table_in table
 
     F : Fits tab
-    F = (whatever-is-read-keeps table).accepted done
+    F = (whatever_is_read_keeps table).accepted done
 
-    signals-are : r.signals.count ≡ tab.signals
-    signals-are = ap (λ (t : Table). t.signals) (table_is table r e)
+    signals_are : r.signals.count ≡ tab.signals
+    signals_are = ap (λ (t : Table). t.signals) (table_is table r e)
 
-    accepted-says : (s room : ℕ) → liveTold table s room ≡ liveSays tab s room
-    unfolding liveTold
-    accepted-says s room = here (eqb (readSays table).number allDone) _ _ (eq-eqb _ _ done)
+    accepted_says : (s room : ℕ) → live_told table s room ≡ live_says tab s room
+    unfolding live_told
+    accepted_says s room = here (eqb (read_says table).number all_done) _ _ (eq-eqb _ _ done)
 
-    pub unknown : (s room : ℕ) → r.signals.count ≤ s → Fills table s room (record { answer = Answer.NoAccess; values = replicate mostValues blank; count = 0 })
-    unfolding liveSays
+    pub unknown : (s room : ℕ) → r.signals.count ≤ s → Fills table s room (record { answer = Answer.NoAccess; values = replicate most_values blank; count = 0 })
+    unfolding live_says
     unknown s room h =
-        refuses table s room Answer.NoAccess (sym (accepted-says s room ∙ here _ _ _ (le-leb tab.signals s (omega (arith, signals-are))))) (λ (q : 23 ≡ 0). let w : ⊥ = omega arith in w)
+        refuses table s room Answer.NoAccess (sym (accepted_says s room ∙ here _ _ _ (le-leb tab.signals s (omega (arith, signals_are))))) (λ (q : 23 ≡ 0). let w : ⊥ = omega arith in w)
 
-    module _ (grid : Grid) (g : grid ≡ gridIn table) where
+    module _ (grid : Grid) (g : grid ≡ grid_in table) where
       same : table_of r.tasks r.signals grid ≡ tab
       same = ap (table_of r.tasks r.signals) g ∙ table_is table r e
 
       pub asked : (s : ℕ) → s < r.signals.count → Asked r.tasks r.signals grid r.hyper s
-      asked s h = record { fits = subst Fits (sym same) F; hyper = hyper-read table r e done ∙ ap hyper (sym same); signal = h }
+      asked s h = record { fits = subst Fits (sym same) F; hyper = hyper_read_lem table r e done ∙ ap hyper (sym same); signal = h }
 
-      module _ (s room : ℕ) (h : s < r.signals.count) (lives : Lives) (n : lives.count ≡ length (liveValues (table_of r.tasks r.signals grid) s)) where
-        size : lives.count ≡ length (liveList tab s)
-        size = n ∙ ap (λ (t : Table). length (liveValues t s)) same ∙ length-lives tab s
+      module _ (s room : ℕ) (h : s < r.signals.count) (lives : Lives) (n : lives.count ≡ length (live_values (table_of r.tasks r.signals grid) s)) where
+        size : lives.count ≡ length (live_list tab s)
+        size = n ∙ ap (λ (t : Table). length (live_values t s)) same ∙ length_lives tab s
 
         known : s < tab.signals
-        known = omega (arith, signals-are)
+        known = omega (arith, signals_are)
 
-        pub short : room < lives.count → Fills table s room (record { answer = Answer.TooShort lives.count; values = replicate mostValues blank; count = 0 })
+        pub short : room < lives.count → Fills table s room (record { answer = Answer.TooShort lives.count; values = replicate most_values blank; count = 0 })
         short l =
-            refuses table s room (Answer.TooShort lives.count) (ap (tell 14) size ∙ sym (accepted-says s room ∙ (live-answers tab F room s).too_short known (omega (arith, size)))) (λ (q : 14 ≡ 0). let w : ⊥ = omega arith in w)
+            refuses table s room (Answer.TooShort lives.count) (ap (tell 14) size ∙ sym (accepted_says s room ∙ (live_answers tab F room s).too_short known (omega (arith, size)))) (λ (q : 14 ≡ 0). let w : ⊥ = omega arith in w)
 
-        pub whole : lives.count ≤ room → told lives.answer ≡ tell allDone (length (liveValues (table_of r.tasks r.signals grid) s)) → lives.count ≤ mostValues
-            → lives.values ≡ padded (liveValues (table_of r.tasks r.signals grid) s) → Fills table s room lives
-        unfolding liveFront
+        pub whole : lives.count ≤ room → told lives.answer ≡ tell all_done (length (live_values (table_of r.tasks r.signals grid) s)) → lives.count ≤ most_values
+            → lives.values ≡ padded (live_values (table_of r.tasks r.signals grid) s) → Fills table s room lives
+        unfolding live_front
         whole l a few v =
-            let t : told lives.answer ≡ liveTold table s room = a ∙ ap (tell allDone) (sym n ∙ size) ∙ sym (accepted-says s room ∙ (live-answers tab F room s).filled known (omega (arith, size))) in
+            let t : told lives.answer ≡ live_told table s room = a ∙ ap (tell all_done) (sym n ∙ size) ∙ sym (accepted_says s room ∙ (live_answers tab F room s).filled known (omega (arith, size))) in
             record {
               says = t;
               fills = λ ys.
-                  filled_is lives (liveValues (table_of r.tasks r.signals grid) s) ys n v ∙ ap (λ (t : Table). liveValues t s ++ drop (length (liveValues t s)) ys) same
-                  ∙ sym (here (eqb (liveTold table s room).number allDone) _ _ (eq-eqb _ _ (sym (ap (λ (t : Told). t.number) t) ∙ ap (λ (t : Told). t.number) a)));
+                  filled_is lives (live_values (table_of r.tasks r.signals grid) s) ys n v ∙ ap (λ (t : Table). live_values t s ++ drop (length (live_values t s)) ys) same
+                  ∙ sym (here (eqb (live_told table s room).number all_done) _ _ (eq-eqb _ _ (sym (ap (λ (t : Told). t.number) t) ∙ ap (λ (t : Told). t.number) a)));
               lent = l;
               few = few;
             }

@@ -4,20 +4,20 @@ use Rattle.rules.specs.Words.{gather, only}
 use Rattle.rules.specs.Windows.{instance}
 use Rattle.rules.specs.Windows as windows
 use Rattle.rules.specs.Values.{carried, by, Life}
-use Rattle.rules.specs.Table.{mostTasks, mostSignals, mostValues, mostElements, longest, Fits}
+use Rattle.rules.specs.Table.{most_tasks, most_signals, most_values, most_elements, longest, Fits}
 use Rattle.rules.specs.Plan.{Placed, line_of}
-use Rattle.rules.specs.Reading.{Grid, table_of, task_of, writesIn, readsIn}
+use Rattle.rules.specs.Reading.{Grid, table_of, task_of, writes_in, reads_in}
 use Rattle.rules.specs.Numbers.{told}
 use Rattle.rules.specs.declared.Task.{Task}
 use Rattle.rules.specs.declared.Tasks.{Tasks}
 use Rattle.rules.specs.declared.Signals.{Signals}
 use Rattle.theory.specs.Untils.{fold, untils}
-use Rattle.theory.specs.Sweep.{taskIn, tickIn, isOpening}
+use Rattle.theory.specs.Sweep.{task_in, tick_in, is_opening}
 use Rattle.windows.specs.Windowed.{AllWindowed}
-use Rattle.signals.specs.Forms.{untilOf}
+use Rattle.signals.specs.Forms.{until_of}
 use Rattle.lives.specs.declared.LiveValue.{LiveValue}
 use Rattle.lives.specs.declared.Lives.{Lives}
-use Rattle.lives.specs.Lives.{value_of, liveTold, liveFront}
+use Rattle.lives.specs.Lives.{value_of, live_told, live_front}
 
 -- a placed value as a record
 abbrev pub shown : Placed → LiveValue
@@ -29,29 +29,29 @@ blank = record { task = 0; instance = 0; from = 0; until = 0; element = 0 }
 
 -- what stands in an array whose first places are in use
 abbrev pub padded : List LiveValue → List LiveValue
-padded vs = vs ++ replicate (mostValues - length vs) blank
+padded vs = vs ++ replicate (most_values - length vs) blank
 
 -- event number n opens a window of a task that writes signal s
 abbrev pub writes_at : (ℕ → Bool) → ℕ → Bool
-writes_at writes n = isOpening n && writes (taskIn n)
+writes_at writes n = is_opening n && writes (task_in n)
 
 -- the life of the value written in that window, by the task's own numbers
-abbrev pub lifeBy : Tasks → Grid → ℕ → ℕ → ℕ → Life
-lifeBy tasks grid s h n =
-    let task : Task = task_of tasks (taskIn n) in
-    let i : ℕ = tickIn n / task.period in
-    record { value = by s (taskIn n) i; from = tickIn n; until = untilOf tasks (writesIn grid s) (readsIn grid s) h (i * task.period + task.end) }
+abbrev pub life_by : Tasks → Grid → ℕ → ℕ → ℕ → Life
+life_by tasks grid s h n =
+    let task : Task = task_of tasks (task_in n) in
+    let i : ℕ = tick_in n / task.period in
+    record { value = by s (task_in n) i; from = tick_in n; until = until_of tasks (writes_in grid s) (reads_in grid s) h (i * task.period + task.end) }
 
 -- what the work on one such event asks
 pub record Opening (tasks : Tasks) (s h n : ℕ) : Type 0 where
-  pub count : tasks.count ≤ mostTasks
-  pub signal : s < mostSignals
+  pub count : tasks.count ≤ most_tasks
+  pub signal : s < most_signals
   pub windows : AllWindowed tasks
   pub hyper : h ≤ longest
-  pub task : taskIn n < tasks.count
-  pub tick : tickIn n ≤ longest
-  pub period : 0 < (task_of tasks (taskIn n)).period
-  pub closing : tickIn n / (task_of tasks (taskIn n)).period * (task_of tasks (taskIn n)).period + (task_of tasks (taskIn n)).end ≤ longest
+  pub task : task_in n < tasks.count
+  pub tick : tick_in n ≤ longest
+  pub period : 0 < (task_of tasks (task_in n)).period
+  pub closing : tick_in n / (task_of tasks (task_in n)).period * (task_of tasks (task_in n)).period + (task_of tasks (task_in n)).end ≤ longest
 
 -- an accepted table, and one of its signals
 pub record Asked (tasks : Tasks) (signals : Signals) (grid : Grid) (h s : ℕ) : Type 0 where
@@ -74,41 +74,41 @@ filled lives n ys = firsts (value_at lives) n ++ drop n ys
 
 -- ---- the values as plain numbers, five for each
 
-abbrev pub recordWords : ℕ
-recordWords = 5
+abbrev pub record_words : ℕ
+record_words = 5
 
-abbrev pub recordIn : List ℕ → ℕ → LiveValue
-recordIn words k = record {
-  task = get_or words (k * recordWords) 0 % 256;
-  instance = get_or words (k * recordWords + 1) 0 % 65536;
-  from = get_or words (k * recordWords + 2) 0;
-  until = get_or words (k * recordWords + 3) 0;
-  element = get_or words (k * recordWords + 4) 0 % 256;
+abbrev pub record_in : List ℕ → ℕ → LiveValue
+record_in words k = record {
+  task = get_or words (k * record_words) 0 % 256;
+  instance = get_or words (k * record_words + 1) 0 % 65536;
+  from = get_or words (k * record_words + 2) 0;
+  until = get_or words (k * record_words + 3) 0;
+  element = get_or words (k * record_words + 4) 0 % 256;
 }
 
-abbrev pub filledFrom : List ℕ → ℕ → List LiveValue → List LiveValue
-filledFrom words n ys = firsts (recordIn words) n ++ drop n ys
+abbrev pub filled_from : List ℕ → ℕ → List LiveValue → List LiveValue
+filled_from words n ys = firsts (record_in words) n ++ drop n ys
 
 -- what a list of so many records is filled with, and what is answered
 pub record Fills (table : List ℕ) (s room : ℕ) (lives : Lives) : Type 0 where
-  pub says : told lives.answer ≡ liveTold table s room
-  pub fills : (ys : List LiveValue) → filled lives lives.count ys ≡ liveFront table s room ys
+  pub says : told lives.answer ≡ live_told table s room
+  pub fills : (ys : List LiveValue) → filled lives lives.count ys ≡ live_front table s room ys
   pub lent : lives.count ≤ room
-  pub few : lives.count ≤ mostValues
+  pub few : lives.count ≤ most_values
 
 -- ---- what is known along the openings and closings of a hyper-period
 
 -- the life of the carried value
-abbrev pub carriedBy : Tasks → Grid → ℕ → ℕ → Life
-carriedBy tasks grid s h = record { value = carried s; from = 0; until = untilOf tasks (writesIn grid s) (readsIn grid s) h 0 }
+abbrev pub carried_by : Tasks → Grid → ℕ → ℕ → Life
+carried_by tasks grid s h = record { value = carried s; from = 0; until = until_of tasks (writes_in grid s) (reads_in grid s) h 0 }
 
 -- the lives of the carried value and of those written in the windows that the first n events open
-unfoldable pub livesBelow : Tasks → Grid → ℕ → ℕ → List ℕ → ℕ → List Life
-livesBelow tasks grid s h events n =
-    carriedBy tasks grid s h ∷ gather n (λ i. only (writes_at (writesIn grid s) (get_or events i 0)) (lifeBy tasks grid s h (get_or events i 0)))
+unfoldable pub lives_below : Tasks → Grid → ℕ → ℕ → List ℕ → ℕ → List Life
+lives_below tasks grid s h events n =
+    carried_by tasks grid s h ∷ gather n (λ i. only (writes_at (writes_in grid s) (get_or events i 0)) (life_by tasks grid s h (get_or events i 0)))
 
 -- The arrays hold these lives: how many there are, their records, and the tick until which each element is held.
 pub record Held (ls : List Life) (held : List ℕ) (values : List LiveValue) (count : ℕ) : Type 0 where
   pub number : count ≡ length ls
   pub records : values ≡ padded (map shown (fold [] ls))
-  pub ticks : held ≡ untils [] ls ++ replicate (mostElements - length (untils [] ls)) 0
+  pub ticks : held ≡ untils [] ls ++ replicate (most_elements - length (untils [] ls)) 0

@@ -1,9 +1,9 @@
 // The lent list. What is answered and filled in is decided first, by value; then one loop stores it. A refusal fills no record.
 ghost use Rattle.std.specs.Prelude.{◌≡◌, ◌*◌, ◌≤◌, min, length};
-ghost use Rattle.rules.specs.Table.{mostValues, mostLent};
+ghost use Rattle.rules.specs.Table.{most_values, most_lent};
 ghost use Rattle.rules.specs.Numbers.{told};
-ghost use Rattle.lives.specs.Lives.{liveTold, liveFront};
-ghost use Rattle.lives.specs.Values.{recordWords, filledFrom, filled, Fills};
+ghost use Rattle.lives.specs.Lives.{live_told, live_front};
+ghost use Rattle.lives.specs.Values.{record_words, filled_from, filled, Fills};
 ghost use Rattle.lives.specs.Gives.{ListGives, LentGives};
 
 use crate::values::{none, values_of};
@@ -57,8 +57,8 @@ fn answer_of(lives: Lives) -> Answer
 
 // The first n records are filled from the numbers, and those beyond stay.
 fn fill_from(list: &mut [LiveValue], words: &[u32], n: usize)
-    requires { (n ≤ length list.old) × (n * recordWords ≤ length words.now) }
-    ensures { list.new ≡ filledFrom words.now n list.old }
+    requires { (n ≤ length list.old) × (n * record_words ≤ length words.now) }
+    ensures { list.new ≡ filled_from words.now n list.old }
 {
     let mut k = 0;
     while k < n {
@@ -69,7 +69,7 @@ fn fill_from(list: &mut [LiveValue], words: &[u32], n: usize)
 
 // The first n records are filled with the values, and those beyond stay.
 fn fill(list: &mut [LiveValue], lives: Lives, n: usize)
-    requires { (n ≤ length list.old) × (n ≤ mostValues) }
+    requires { (n ≤ length list.old) × (n ≤ most_values) }
     ensures { list.new ≡ filled lives n list.old }
 {
     let words = packed(lives);
@@ -79,7 +79,7 @@ fn fill(list: &mut [LiveValue], lives: Lives, n: usize)
 // The first records of a list are lent.
 fn fill_front(list: &mut [LiveValue], table: &[u8], signal: usize, room: usize) -> Answer
     requires { room ≤ length list.old }
-    ensures { (told result ≡ liveTold table.now signal room) × (list.new ≡ liveFront table.now signal room list.old) }
+    ensures { (told result ≡ live_told table.now signal room) × (list.new ≡ live_front table.now signal room list.old) }
 {
     let lives = lives_of(table, signal, room);
     let n = count_of(lives);
@@ -97,7 +97,7 @@ pub fn live_list(table: &[u8], signal: usize, list: &mut [LiveValue]) -> Answer
 }
 
 fn at_most(room: usize) -> usize
-    ensures { result ≡ min room mostLent }
+    ensures { result ≡ min room most_lent }
 {
     if room <= MOST_LENT { room } else { MOST_LENT }
 }

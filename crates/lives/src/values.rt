@@ -1,11 +1,11 @@
 // The values of one signal in plan order, each with its life and its element: one until-tick for each element.
 ghost use Rattle.std.specs.Prelude.{◌≡◌, ◌<◌, ◌≤◌, length, set, replicate};
-ghost use Rattle.rules.specs.Numbers.{told, tell, allDone};
-ghost use Rattle.rules.specs.Table.{mostSignals, mostValues, mostElements};
-ghost use Rattle.rules.specs.Reading.{table_of, writesIn};
-ghost use Rattle.elements.specs.Steps.{freeIn};
-ghost use Rattle.lives.specs.Lives.{liveValues};
-ghost use Rattle.lives.specs.Values.{shown, blank, padded, writes_at, lifeBy, Opening, Asked};
+ghost use Rattle.rules.specs.Numbers.{told, tell, all_done};
+ghost use Rattle.rules.specs.Table.{most_signals, most_values, most_elements};
+ghost use Rattle.rules.specs.Reading.{table_of, writes_in};
+ghost use Rattle.elements.specs.Steps.{free_in};
+ghost use Rattle.lives.specs.Lives.{live_values};
+ghost use Rattle.lives.specs.Values.{shown, blank, padded, writes_at, life_by, Opening, Asked};
 
 use crate::{BLANK, CARRIED, LiveValue, Lives};
 use elements::first_free;
@@ -15,8 +15,8 @@ use signals::{until, writes};
 
 // Whether the event opens a window of a task that writes the signal.
 fn is_written(grid: &[[u8; MOST_SIGNALS]; MOST_TASKS], signal: usize, event: u32) -> bool
-    requires { signal < mostSignals }
-    ensures { result ≡ writes_at (writesIn grid.now signal) event }
+    requires { signal < most_signals }
+    ensures { result ≡ writes_at (writes_in grid.now signal) event }
 {
     if event / KIND % 2 == 1 {
         return writes(grid, (event % KIND) as usize, signal);
@@ -34,8 +34,8 @@ fn written(
     held: &mut [u32; MOST_ELEMENTS],
 ) -> LiveValue
     requires { Opening tasks signal hyper event }
-    ensures value { result ≡ shown (record { life = lifeBy tasks grid.now signal hyper event; element = freeIn held.old (lifeBy tasks grid.now signal hyper event).from }) }
-    ensures holds { held.new ≡ set held.old (freeIn held.old (lifeBy tasks grid.now signal hyper event).from) (lifeBy tasks grid.now signal hyper event).until }
+    ensures value { result ≡ shown (record { life = life_by tasks grid.now signal hyper event; element = free_in held.old (life_by tasks grid.now signal hyper event).from }) }
+    ensures holds { held.new ≡ set held.old (free_in held.old (life_by tasks grid.now signal hyper event).from) (life_by tasks grid.now signal hyper event).until }
 {
     let k = (event % KIND) as usize;
     let from = event / KIND / 2;
@@ -62,9 +62,9 @@ pub fn values_of(
     hyper: u32,
 ) -> Lives
     requires { Asked tasks signals grid.now hyper signal }
-    ensures answer { told result.answer ≡ tell allDone (length (liveValues (table_of tasks signals grid.now) signal)) }
-    ensures count { (result.count ≡ length (liveValues (table_of tasks signals grid.now) signal)) × (result.count ≤ mostValues) }
-    ensures values { result.values ≡ padded (liveValues (table_of tasks signals grid.now) signal) }
+    ensures answer { told result.answer ≡ tell all_done (length (live_values (table_of tasks signals grid.now) signal)) }
+    ensures count { (result.count ≡ length (live_values (table_of tasks signals grid.now) signal)) × (result.count ≤ most_values) }
+    ensures values { result.values ≡ padded (live_values (table_of tasks signals grid.now) signal) }
 {
     let events = order_events(tasks, hyper);
     let carried = until(tasks, grid, signal, hyper, 0);
@@ -97,7 +97,7 @@ pub fn values_of(
 
 // A refusal: there is nothing to fill in.
 pub fn none(answer: Answer) -> Lives
-    ensures { result ≡ record { answer = answer; values = replicate mostValues blank; count = 0 } }
+    ensures { result ≡ record { answer = answer; values = replicate most_values blank; count = 0 } }
 {
     Lives {
         answer: answer,

@@ -1,7 +1,7 @@
 // The values as plain numbers, five for each: what the loop over the lent list looks into, so that no turn copies them all.
 ghost use Rattle.std.specs.Prelude.{◌≡◌, ℕ, ◌+◌, ◌*◌, ◌<◌, ◌≤◌, length};
-ghost use Rattle.rules.specs.Table.{mostValues};
-ghost use Rattle.lives.specs.Values.{recordWords, recordIn, value_at};
+ghost use Rattle.rules.specs.Table.{most_values};
+ghost use Rattle.lives.specs.Values.{record_words, record_in, value_at};
 
 use crate::{LiveValue, Lives};
 use rules::MOST_VALUES;
@@ -25,10 +25,10 @@ fn wide16(x: u16) -> u32
 
 // One record is stored, and the others stay.
 fn put(words: &mut [u32; WORDS], k: usize, value: LiveValue)
-    requires { (k < mostValues) × (length words.old ≡ mostValues * recordWords) }
-    ensures size { length words.new ≡ mostValues * recordWords }
-    ensures stored { recordIn words.new k ≡ value }
-    ensures others { (j : ℕ) → (j ≡ k → ⊥) → recordIn words.new j ≡ recordIn words.old j }
+    requires { (k < most_values) × (length words.old ≡ most_values * record_words) }
+    ensures size { length words.new ≡ most_values * record_words }
+    ensures stored { record_in words.new k ≡ value }
+    ensures others { (j : ℕ) → (j ≡ k → ⊥) → record_in words.new j ≡ record_in words.old j }
 {
     let at = k * RECORD_WORDS;
     words[at] = wide8(value.task);
@@ -39,7 +39,7 @@ fn put(words: &mut [u32; WORDS], k: usize, value: LiveValue)
 }
 
 pub fn packed(lives: Lives) -> [u32; WORDS]
-    ensures { (length result ≡ mostValues * recordWords) × ((k : ℕ) → k < mostValues → recordIn result k ≡ value_at lives k) }
+    ensures { (length result ≡ most_values * record_words) × ((k : ℕ) → k < most_values → record_in result k ≡ value_at lives k) }
 {
     let mut words = [0u32; WORDS];
     let mut k: usize = 0;
@@ -52,8 +52,8 @@ pub fn packed(lives: Lives) -> [u32; WORDS]
 
 // Record number k. A byte and a half-word are taken as such, so that no cast loses bits.
 pub fn record_in(words: &[u32], k: usize) -> LiveValue
-    requires { k * recordWords + recordWords ≤ length words.now }
-    ensures { result ≡ recordIn words.now k }
+    requires { k * record_words + record_words ≤ length words.now }
+    ensures { result ≡ record_in words.now k }
 {
     let at = k * RECORD_WORDS;
     LiveValue {

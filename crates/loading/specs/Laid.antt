@@ -1,7 +1,7 @@
 -- Document 01, loading: the numbers and the store that the machine keeps, from the tasks, the grid and the schedule's bytes. Assumes nothing.
 use Rattle.std.specs.Prelude.{ℕ, ◌+◌, ◌*◌, ◌/◌, ◌%◌, ◌≤◌, ◌<◌, Bool, cond, List, eqb, length, get_or, set, replicate}
 use Rattle.rules.specs.Words.{total, times, up_to}
-use Rattle.rules.specs.Table.{mostTasks, mostSignals, mostUses, words}
+use Rattle.rules.specs.Table.{most_tasks, most_signals, most_uses, words}
 use Rattle.rules.specs.Reading.{Grid, cell_at, task_of}
 use Rattle.rules.specs.declared.Task.{Task}
 use Rattle.rules.specs.declared.Tasks.{Tasks}
@@ -22,19 +22,19 @@ pub record Narrow (w : Task) : Type 0 where
 
 module _ (tasks : Tasks) where
   pub record Windowed : Type 0 where
-    pub few-tasks : tasks.count ≤ mostTasks
+    pub few_tasks : tasks.count ≤ most_tasks
     pub narrow : (k : ℕ) → k < tasks.count → Narrow (task_of tasks k)
 
   -- how many instances each task has
-  unfoldable pub countsOf : (hyper : ℕ) → List ℕ
-  countsOf h = up_to tasks.count (λ k l. set l k (h / (task_of tasks k).period)) (replicate mostTasks 0)
+  unfoldable pub counts_of : (hyper : ℕ) → List ℕ
+  counts_of h = up_to tasks.count (λ k l. set l k (h / (task_of tasks k).period)) (replicate most_tasks 0)
 
 -- task t has this window, and so many instances
-unfoldable pub setWindow : Task → (count t : ℕ) → List ℕ → List ℕ
-setWindow w c t n = set (set (set (set n (periods + t) w.period) (starts + t) w.start) (ends + t) w.end) (counts + t) c
+unfoldable pub set_window : Task → (count t : ℕ) → List ℕ → List ℕ
+set_window w c t n = set (set (set (set n (periods + t) w.period) (starts + t) w.start) (ends + t) w.end) (counts + t) c
 
-unfoldable pub windowsLaid : Tasks → (counts n : List ℕ) → List ℕ
-windowsLaid tasks cs = up_to tasks.count (λ k. setWindow (task_of tasks k) (get_or cs k 0) k)
+unfoldable pub windows_laid : Tasks → (counts n : List ℕ) → List ℕ
+windows_laid tasks cs = up_to tasks.count (λ k. set_window (task_of tasks k) (get_or cs k 0) k)
 
 -- ---- one signal
 
@@ -43,73 +43,73 @@ abbrev pub permits : Grid → (right k s : ℕ) → Bool
 permits grid right k s = eqb (cell_at grid k s / right % 2) 1
 
 -- the uses that the tasks below n have of signal s, one for each instance
-unfoldable pub usesOf : Grid → (counts : List ℕ) → (right s n : ℕ) → ℕ
-usesOf grid cs right s n = total (λ k. times (permits grid right k s) (get_or cs k 0)) n
+unfoldable pub uses_of : Grid → (counts : List ℕ) → (right s n : ℕ) → ℕ
+uses_of grid cs right s n = total (λ k. times (permits grid right k s) (get_or cs k 0)) n
 
 -- the schedule's bytes: 4 for each BF and 7 for each use stand before the record; its last byte is the count, or the element
-abbrev pub countIn : List ℕ → (s used : ℕ) → ℕ
-countIn schedule s used = get_or schedule (4 * s + 7 * used + 3) 0
+abbrev pub count_in : List ℕ → (s used : ℕ) → ℕ
+count_in schedule s used = get_or schedule (4 * s + 7 * used + 3) 0
 
-abbrev pub elementIn : List ℕ → (s j : ℕ) → ℕ
-elementIn schedule s j = get_or schedule (4 * (s + 1) + 7 * j + 6) 0
+abbrev pub element_in : List ℕ → (s j : ℕ) → ℕ
+element_in schedule s j = get_or schedule (4 * (s + 1) + 7 * j + 6) 0
 
 -- the uses of task k's access to signal s begin at `used`
-unfoldable pub placeAccess : (kind : ℕ) → Grid → (right s used k : ℕ) → List ℕ → List ℕ
-placeAccess kind grid right s used k n = cond (permits grid right k s) (set n (cell kind k s) used) n
+unfoldable pub place_access : (kind : ℕ) → Grid → (right s used k : ℕ) → List ℕ → List ℕ
+place_access kind grid right s used k n = cond (permits grid right k s) (set n (cell kind k s) used) n
 
 -- those of all tasks below m one after the other
-unfoldable pub placeAccesses : (kind : ℕ) → Grid → (counts : List ℕ) → (right s first m : ℕ) → List ℕ → List ℕ
-placeAccesses kind grid cs right s first m = up_to m (λ k. placeAccess kind grid right s (first + usesOf grid cs right s k) k)
+unfoldable pub place_accesses : (kind : ℕ) → Grid → (counts : List ℕ) → (right s first m : ℕ) → List ℕ → List ℕ
+place_accesses kind grid cs right s first m = up_to m (λ k. place_access kind grid right s (first + uses_of grid cs right s k) k)
 
 -- m uses of signal s stand where the schedule says
-unfoldable pub placeUses : List ℕ → (s base first m : ℕ) → List ℕ → List ℕ
-placeUses schedule s base first m = up_to m (λ j n. set n (uses + (first + j)) (base + elementIn schedule s (first + j)))
+unfoldable pub place_uses : List ℕ → (s base first m : ℕ) → List ℕ → List ℕ
+place_uses schedule s base first m = up_to m (λ j n. set n (uses + (first + j)) (base + element_in schedule s (first + j)))
 
 -- m elements hold the word
-unfoldable pub fillElements : (base m word : ℕ) → List ℕ → List ℕ
-fillElements base m word = up_to m (λ e l. set l (base + e) word)
+unfoldable pub fill_elements : (base m word : ℕ) → List ℕ → List ℕ
+fill_elements base m word = up_to m (λ e l. set l (base + e) word)
 
 -- ---- signal by signal
 
 module _ (grid : Grid) (cs : List ℕ) (tasks : ℕ) where
   -- the uses of signal s: first those of its writers, then those of its readers
-  abbrev pub signalUses : ℕ → ℕ
-  signalUses s = usesOf grid cs 2 s tasks + usesOf grid cs 1 s tasks
+  abbrev pub signal_uses : ℕ → ℕ
+  signal_uses s = uses_of grid cs 2 s tasks + uses_of grid cs 1 s tasks
 
   -- the uses of the signals before s
-  unfoldable pub usedBefore : ℕ → ℕ
-  usedBefore s = total signalUses s
+  unfoldable pub used_before : ℕ → ℕ
+  used_before s = total signal_uses s
 
 module _ (grid : Grid) (cs schedule : List ℕ) (tasks : ℕ) where
   -- the elements of the signals before s
-  unfoldable pub baseBefore : ℕ → ℕ
-  baseBefore s = total (λ r. countIn schedule r (usedBefore grid cs tasks r)) s
+  unfoldable pub base_before : ℕ → ℕ
+  base_before s = total (λ r. count_in schedule r (used_before grid cs tasks r)) s
 
   -- signal s, with so many uses and elements before it
-  unfoldable pub signalAt : (used base s : ℕ) → List ℕ → List ℕ
-  signalAt used base s n =
-      placeUses schedule s base used (signalUses grid cs tasks s)
-      (placeAccesses reads grid cs 1 s (used + usesOf grid cs 2 s tasks) tasks
-      (placeAccesses writes grid cs 2 s used tasks
+  unfoldable pub signal_at : (used base s : ℕ) → List ℕ → List ℕ
+  signal_at used base s n =
+      place_uses schedule s base used (signal_uses grid cs tasks s)
+      (place_accesses reads grid cs 1 s (used + uses_of grid cs 2 s tasks) tasks
+      (place_accesses writes grid cs 2 s used tasks
       (set n (carried + s) base)))
 
-  unfoldable pub signalLaid : ℕ → List ℕ → List ℕ
-  signalLaid s = signalAt (usedBefore grid cs tasks s) (baseBefore s) s
+  unfoldable pub signal_laid : ℕ → List ℕ → List ℕ
+  signal_laid s = signal_at (used_before grid cs tasks s) (base_before s) s
 
-  unfoldable pub storeLaid : (defaults : List ℕ) → ℕ → List ℕ → List ℕ
-  storeLaid defaults s = fillElements (baseBefore s) (countIn schedule s (usedBefore grid cs tasks s)) (get_or defaults s 0)
+  unfoldable pub store_laid : (defaults : List ℕ) → ℕ → List ℕ → List ℕ
+  store_laid defaults s = fill_elements (base_before s) (count_in schedule s (used_before grid cs tasks s)) (get_or defaults s 0)
 
   -- there is room for one signal, and for all
   pub record SignalRoom (used base s : ℕ) : Type 0 where
-    pub few-tasks : tasks ≤ mostTasks
-    pub signal : s < mostSignals
-    pub few-uses : used + signalUses grid cs tasks s ≤ mostUses
-    pub bytes : 4 * s + 7 * (used + signalUses grid cs tasks s) + 4 ≤ length schedule
-    pub elements : base + countIn schedule s used ≤ words
+    pub few_tasks : tasks ≤ most_tasks
+    pub signal : s < most_signals
+    pub few_uses : used + signal_uses grid cs tasks s ≤ most_uses
+    pub bytes : 4 * s + 7 * (used + signal_uses grid cs tasks s) + 4 ≤ length schedule
+    pub elements : base + count_in schedule s used ≤ words
 
   pub record Room (signals : ℕ) : Type 0 where
-    pub few-tasks : tasks ≤ mostTasks
-    pub few-signals : signals ≤ mostSignals
-    pub few-uses : usedBefore grid cs tasks signals ≤ mostUses
-    pub bytes : 4 * signals + 7 * usedBefore grid cs tasks signals ≤ length schedule
-    pub elements : baseBefore signals ≤ words
+    pub few_tasks : tasks ≤ most_tasks
+    pub few_signals : signals ≤ most_signals
+    pub few_uses : used_before grid cs tasks signals ≤ most_uses
+    pub bytes : 4 * signals + 7 * used_before grid cs tasks signals ≤ length schedule
+    pub elements : base_before signals ≤ words

@@ -1,9 +1,9 @@
 // The numbers and the store of a machine that is loaded: the tasks' windows, and signal by signal the accesses, the uses and the elements.
 ghost use Rattle.std.specs.Prelude.{◌≡◌, ℕ, ◌+◌, ◌*◌, ◌<◌, ◌≤◌, length, get_or, replicate};
 ghost use Rattle.rules.specs.Words.{times, up_to};
-ghost use Rattle.rules.specs.Table.{mostTasks, mostSignals, mostUses, words};
-ghost use Rattle.state.specs.Parts.{lastKind};
-ghost use Rattle.loading.specs.Laid.{blank, countsOf, setWindow, windowsLaid, permits, usesOf, countIn, placeAccess, placeAccesses, placeUses, fillElements, signalUses, signalAt, signalLaid, storeLaid, Narrow, Windowed, SignalRoom, Room};
+ghost use Rattle.rules.specs.Table.{most_tasks, most_signals, most_uses, words};
+ghost use Rattle.state.specs.Parts.{last_kind};
+ghost use Rattle.loading.specs.Laid.{blank, counts_of, set_window, windows_laid, permits, uses_of, count_in, place_access, place_accesses, place_uses, fill_elements, signal_uses, signal_at, signal_laid, store_laid, Narrow, Windowed, SignalRoom, Room};
 
 use fields::wide;
 use rules::{
@@ -47,7 +47,7 @@ pub fn clear(numbers: &mut [u16; NUMBERS], hyper: u32)
 // How many instances each task has in a hyper-period.
 pub fn count_instances(tasks: Tasks, hyper: u32) -> [u16; MOST_TASKS]
     requires { Windowed tasks × (hyper < 65536) }
-    ensures { result ≡ countsOf tasks hyper }
+    ensures { result ≡ counts_of tasks hyper }
 {
     let mut counts = [0u16; MOST_TASKS];
     let n = tasks.count;
@@ -59,8 +59,8 @@ pub fn count_instances(tasks: Tasks, hyper: u32) -> [u16; MOST_TASKS]
 }
 
 fn load_window(numbers: &mut [u16; NUMBERS], task: usize, window: Task, count: u16)
-    requires { (task < mostTasks) × Narrow window }
-    ensures { numbers.new ≡ setWindow window count task numbers.old }
+    requires { (task < most_tasks) × Narrow window }
+    ensures { numbers.new ≡ set_window window count task numbers.old }
 {
     numbers[PERIODS + task] = window.period as u16;
     numbers[STARTS + task] = window.start as u16;
@@ -71,7 +71,7 @@ fn load_window(numbers: &mut [u16; NUMBERS], task: usize, window: Task, count: u
 // Each task's window, with its instances.
 pub fn load_windows(numbers: &mut [u16; NUMBERS], tasks: Tasks, counts: &[u16; MOST_TASKS])
     requires { Windowed tasks }
-    ensures { numbers.new ≡ windowsLaid tasks counts.now numbers.old }
+    ensures { numbers.new ≡ windows_laid tasks counts.now numbers.old }
 {
     let n = tasks.count;
     for k in 0..n {
@@ -86,7 +86,7 @@ fn is_permitted(
     task: usize,
     signal: usize,
 ) -> bool
-    requires { (task < mostTasks) × (signal < mostSignals) × (0 < right) }
+    requires { (task < most_tasks) × (signal < most_signals) × (0 < right) }
     ensures { result ≡ permits grid.now right task signal }
 {
     grid[task][signal] / right % 2 == 1
@@ -103,8 +103,8 @@ fn place_access<'a>(
     used: usize,
     task: usize,
 ) -> usize
-    requires { (kind ≤ lastKind) × (task < mostTasks) × (signal < mostSignals) × (0 < right) × (used ≤ mostUses) }
-    ensures { (numbers.new ≡ placeAccess kind grid.now right signal used task numbers.old)
+    requires { (kind ≤ last_kind) × (task < most_tasks) × (signal < most_signals) × (0 < right) × (used ≤ most_uses) }
+    ensures { (numbers.new ≡ place_access kind grid.now right signal used task numbers.old)
         × (result ≡ used + times (permits grid.now right task signal) (get_or counts.now task 0)) }
 {
     if !is_permitted(grid, right, task, signal) {
@@ -125,9 +125,9 @@ fn place_accesses<'a>(
     signal: usize,
     first: usize,
 ) -> usize
-    requires { (kind ≤ lastKind) × (tasks ≤ mostTasks) × (signal < mostSignals) × (0 < right) × (first + usesOf grid.now counts.now right signal tasks ≤ mostUses) }
-    ensures { (numbers.new ≡ placeAccesses kind grid.now counts.now right signal first tasks numbers.old)
-        × (result ≡ first + usesOf grid.now counts.now right signal tasks) }
+    requires { (kind ≤ last_kind) × (tasks ≤ most_tasks) × (signal < most_signals) × (0 < right) × (first + uses_of grid.now counts.now right signal tasks ≤ most_uses) }
+    ensures { (numbers.new ≡ place_accesses kind grid.now counts.now right signal first tasks numbers.old)
+        × (result ≡ first + uses_of grid.now counts.now right signal tasks) }
 {
     let mut used = first;
     for k in 0..tasks {
@@ -145,8 +145,8 @@ fn place_uses(
     first: usize,
     n: usize,
 )
-    requires { (signal < mostSignals) × (base ≤ words) × (first + n ≤ mostUses) × (4 * signal + 7 * (first + n) + 4 ≤ length schedule.now) }
-    ensures { numbers.new ≡ placeUses schedule.now signal base first n numbers.old }
+    requires { (signal < most_signals) × (base ≤ words) × (first + n ≤ most_uses) × (4 * signal + 7 * (first + n) + 4 ≤ length schedule.now) }
+    ensures { numbers.new ≡ place_uses schedule.now signal base first n numbers.old }
 {
     for j in 0..n {
         let k = first + j;
@@ -157,7 +157,7 @@ fn place_uses(
 
 fn fill_elements(store: &mut [u32; WORDS], base: usize, n: usize, word: u32)
     requires { base + n ≤ words }
-    ensures { store.new ≡ fillElements base n word store.old }
+    ensures { store.new ≡ fill_elements base n word store.old }
 {
     for e in 0..n {
         store[base + e] = word;
@@ -178,10 +178,10 @@ fn load_signal<'a>(
     signal: usize,
 ) -> Filled
     requires { SignalRoom grid.now counts.now schedule.now tasks used base signal }
-    ensures { (numbers.new ≡ signalAt grid.now counts.now schedule.now tasks used base signal numbers.old)
-        × (store.new ≡ fillElements base (countIn schedule.now signal used) word store.old)
-        × (result.used ≡ used + signalUses grid.now counts.now tasks signal)
-        × (result.base ≡ base + countIn schedule.now signal used) }
+    ensures { (numbers.new ≡ signal_at grid.now counts.now schedule.now tasks used base signal numbers.old)
+        × (store.new ≡ fill_elements base (count_in schedule.now signal used) word store.old)
+        × (result.used ≡ used + signal_uses grid.now counts.now tasks signal)
+        × (result.base ≡ base + count_in schedule.now signal used) }
 {
     let count = wide(schedule[BF_BYTES * signal + USE_BYTES * used + COUNT_AT]);
     fill_elements(store, base, count, word);
@@ -207,8 +207,8 @@ pub fn load_signals<'a>(
     signals: usize,
 )
     requires { Room grid.now counts.now schedule.now tasks signals }
-    ensures { (numbers.new ≡ up_to signals (signalLaid grid.now counts.now schedule.now tasks) numbers.old)
-        × (store.new ≡ up_to signals (storeLaid grid.now counts.now schedule.now tasks defaults.now) store.old) }
+    ensures { (numbers.new ≡ up_to signals (signal_laid grid.now counts.now schedule.now tasks) numbers.old)
+        × (store.new ≡ up_to signals (store_laid grid.now counts.now schedule.now tasks defaults.now) store.old) }
 {
     let mut used = 0;
     let mut base = 0;

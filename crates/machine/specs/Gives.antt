@@ -5,7 +5,7 @@ use Rattle.machine.specs.declared.Machine.{Machine}
 use Rattle.machine.specs.declared.Stepped.{Stepped}
 use Rattle.machine.specs.declared.WordRead.{WordRead}
 use Rattle.machine.specs.declared.InstanceRead.{InstanceRead}
-use Rattle.machine.specs.Calls.{keeping, unloaded, left, stepIn, readIn, writeIn, open_in, answered, step_of, read_of, writeOf}
+use Rattle.machine.specs.Calls.{keeping, unloaded, left, step_in, read_in, write_in, open_in, answered, step_of, read_of, write_of}
 use Rattle.machine.specs.Load.{Loads}
 
 -- r is what `Machine::new` gives
@@ -20,7 +20,7 @@ abbrev pub ReadGives : Machine → (task signal : ℕ) → WordRead → Type 0
 ReadGives m task signal r = r ≡ read_of m task signal
 
 abbrev pub WriteGives : Machine → (task signal word : ℕ) → Stepped → Type 0
-WriteGives m task signal word r = r ≡ writeOf m task signal word
+WriteGives m task signal word r = r ≡ write_of m task signal word
 
 -- ---- the same over lent lists: r is answered, and what stands in the lists after the call
 
@@ -28,13 +28,13 @@ abbrev pub ListsLoadGives : (numbers defaults store table schedule : List ℕ) �
 ListsLoadGives n d s table schedule r n' d' s' = Loads (keeping n d s) table schedule (answered r (keeping n' d' s'))
 
 abbrev pub ListsStepGives : (numbers defaults store : List ℕ) → Answer → (numbers' store' : List ℕ) → Type 0
-ListsStepGives n d s r n' s' = left r n' s' ≡ stepIn n d s
+ListsStepGives n d s r n' s' = left r n' s' ≡ step_in n d s
 
 abbrev pub ListsReadGives : (numbers store : List ℕ) → (task signal : ℕ) → WordRead → Type 0
-ListsReadGives n s task signal r = r ≡ readIn n s task signal
+ListsReadGives n s task signal r = r ≡ read_in n s task signal
 
 abbrev pub ListsWriteGives : (numbers store : List ℕ) → (task signal word : ℕ) → Answer → (store' : List ℕ) → Type 0
-ListsWriteGives n s task signal word r s' = left r n s' ≡ writeIn n s task signal word
+ListsWriteGives n s task signal word r s' = left r n s' ≡ write_in n s task signal word
 
 abbrev pub ListsOpenGives : (numbers : List ℕ) → (task : ℕ) → InstanceRead → Type 0
 ListsOpenGives n task r = r ≡ open_in n task

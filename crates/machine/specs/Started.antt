@@ -4,12 +4,12 @@ use Rattle.rules.specs.Words.{up_to}
 use Rattle.rules.specs.Windows.{Table, hyper}
 use Rattle.rules.specs.Table.{words, Fits}
 use Rattle.rules.specs.Schedule.{Schedule, base}
-use Rattle.rules.specs.Bytes.{scheduleIn, scheduleLength}
+use Rattle.rules.specs.Bytes.{schedule_in, schedule_length}
 use Rattle.rules.specs.Reading.{Grid, table_of}
 use Rattle.rules.specs.declared.Tasks.{Tasks}
 use Rattle.rules.specs.declared.Signals.{Signals}
 use Rattle.state.specs.Rows.{openings, released}
-use Rattle.loading.specs.Laid.{blank, countsOf, windowsLaid, signalLaid, storeLaid}
+use Rattle.loading.specs.Laid.{blank, counts_of, windows_laid, signal_laid, store_laid}
 use Rattle.machine.specs.declared.Machine.{Machine}
 use Rattle.machine.specs.Calls.{keeping}
 
@@ -30,19 +30,19 @@ module _ (g : Given) where
   tab = table_of g.tasks g.signals g.grid
 
   abbrev pub made : Schedule
-  made = scheduleIn tab g.schedule
+  made = schedule_in tab g.schedule
 
   -- how many instances each task has
   abbrev pub counted : List ℕ
-  counted = countsOf g.tasks g.hyper
+  counted = counts_of g.tasks g.hyper
 
   -- the windows, then every signal
   unfoldable pub laid : List ℕ
-  laid = up_to g.signals.count (signalLaid g.grid counted g.schedule g.tasks.count) (windowsLaid g.tasks counted (blank g.hyper))
+  laid = up_to g.signals.count (signal_laid g.grid counted g.schedule g.tasks.count) (windows_laid g.tasks counted (blank g.hyper))
 
   -- every element with its default
   unfoldable pub filled : List ℕ
-  filled = up_to g.signals.count (storeLaid g.grid counted g.schedule g.tasks.count g.signals.defaults) (replicate words 0)
+  filled = up_to g.signals.count (store_laid g.grid counted g.schedule g.tasks.count g.signals.defaults) (replicate words 0)
 
   -- the carried values stand, and tick 0 opens
   unfoldable pub started : Machine
@@ -51,6 +51,6 @@ module _ (g : Given) where
   -- what the checks guarantee: the table fits, this is its hyper-period, the schedule has its length, and its counts sum to at most 256
   pub record Checked : Type 0 where
     pub fits : Fits tab
-    pub hyper-is : g.hyper ≡ hyper tab
-    pub whole : length g.schedule ≡ scheduleLength tab
+    pub hyper_is : g.hyper ≡ hyper tab
+    pub whole : length g.schedule ≡ schedule_length tab
     pub in_all : base made g.signals.count ≤ words

@@ -11,97 +11,97 @@ use Rattle.rules.specs.Windows.{Table}
 use Rattle.rules.specs.Table.{Fits}
 use Rattle.rules.specs.Schedule.{Schedule, base, room, Passes}
 use Rattle.rules.specs.Plan.{plan}
-use Rattle.rules.specs.Bytes.{bytes_of, scheduleLength}
-use Rattle.rules.specs.Numbers.{Told, tell, told, allDone}
-use Rattle.rules.specs.Answers.{planSays}
-use Rattle.rules.specs.Reading.{tableIn, readSays}
+use Rattle.rules.specs.Bytes.{bytes_of, schedule_length}
+use Rattle.rules.specs.Numbers.{Told, tell, told, all_done}
+use Rattle.rules.specs.Answers.{plan_says}
+use Rattle.rules.specs.Reading.{table_in, read_says}
 use Rattle.rules.specs.declared.Answer.{Answer}
 use Rattle.theory.proofs.Tests.{split}
 use Rattle.theory.proofs.Checked.{when_false}
-use Rattle.theory.proofs.Laid.{bytes-length}
-use Rattle.theory.proofs.Answered.{plan-says, plan-answers}
-use Rattle.theory.proofs.Planned.{no-fewer-in-all}
+use Rattle.theory.proofs.Laid.{bytes_length}
+use Rattle.theory.proofs.Answered.{plan_says_lem, plan_answers}
+use Rattle.theory.proofs.Planned.{no_fewer_in_all}
 use Rattle.theory.proofs.TableRead.{read_keeps}
 use Rattle.fields.proofs.Whens.{on, off}
-use Rattle.plan.specs.Planning.{planTold, plannedInto, planOut}
+use Rattle.plan.specs.Planning.{plan_told, planned_into, plan_out}
 use Rattle.plan.specs.Gives.{PlanGives}
 
 -- ---- of an accepted table
 
 module _ (tab : Table) (F : Fits tab) (lent : ℕ) where
   -- where a schedule passes and the buffer has room, planning is done
-  pub done-where : (E : Schedule) → Passes tab E → scheduleLength tab ≤ lent → planSays tab lent ≡ tell allDone (scheduleLength tab)
-  done-where E A h =
-      plan-says tab F lent
-      ∙ when_false (ltb (room tab) (base (plan tab) tab.signals)) _ _ (le-ltb (room tab) (base (plan tab) tab.signals) (omega (arith, no-fewer-in-all tab F E A, A.in_all)))
-      ∙ when_false (ltb lent (scheduleLength tab)) _ _ (le-ltb lent (scheduleLength tab) h)
+  pub done_where : (E : Schedule) → Passes tab E → schedule_length tab ≤ lent → plan_says tab lent ≡ tell all_done (schedule_length tab)
+  done_where E A h =
+      plan_says_lem tab F lent
+      ∙ when_false (ltb (room tab) (base (plan tab) tab.signals)) _ _ (le-ltb (room tab) (base (plan tab) tab.signals) (omega (arith, no_fewer_in_all tab F E A, A.in_all)))
+      ∙ when_false (ltb lent (schedule_length tab)) _ _ (le-ltb lent (schedule_length tab) h)
 
   -- and where it is done, the plan passes and fits
-  done-gives : (planSays tab lent).number ≡ allDone → Passes tab (plan tab) × (scheduleLength tab ≤ lent)
-  done-gives e = let p = (plan-answers tab F lent).passes e in (p.0, omega (arith, p.1, bytes-length tab (plan tab)))
+  done_gives : (plan_says tab lent).number ≡ all_done → Passes tab (plan tab) × (schedule_length tab ≤ lent)
+  done_gives e = let p = (plan_answers tab F lent).passes e in (p.0, omega (arith, p.1, bytes_length tab (plan tab)))
 
-into-done : (tab : Table) (out : List ℕ) → (planSays tab (length out)).number ≡ allDone → plannedInto tab out ≡ bytes_of tab (plan tab) ++ drop (scheduleLength tab) out
-unfolding plannedInto
-into-done tab out e = on _ _ (eq-eqb (planSays tab (length out)).number allDone e)
+into_done : (tab : Table) (out : List ℕ) → (plan_says tab (length out)).number ≡ all_done → planned_into tab out ≡ bytes_of tab (plan tab) ++ drop (schedule_length tab) out
+unfolding planned_into
+into_done tab out e = on _ _ (eq-eqb (plan_says tab (length out)).number all_done e)
 
-into-refused : (tab : Table) (out : List ℕ) → ((planSays tab (length out)).number ≡ allDone → ⊥) → plannedInto tab out ≡ out
-unfolding plannedInto
-into-refused tab out n = off _ _ (ne_eqb (planSays tab (length out)).number allDone n)
+into_refused : (tab : Table) (out : List ℕ) → ((plan_says tab (length out)).number ≡ all_done → ⊥) → planned_into tab out ≡ out
+unfolding planned_into
+into_refused tab out n = off _ _ (ne_eqb (plan_says tab (length out)).number all_done n)
 
 -- ---- by whether the table is accepted
 
 module _ (table out : List ℕ) where
-  accepted-told : (readSays table).number ≡ allDone → planTold table (length out) ≡ planSays (tableIn table) (length out)
-  unfolding planTold
-  accepted-told e = on _ _ (eq-eqb (readSays table).number allDone e)
+  accepted_told : (read_says table).number ≡ all_done → plan_told table (length out) ≡ plan_says (table_in table) (length out)
+  unfolding plan_told
+  accepted_told e = on _ _ (eq-eqb (read_says table).number all_done e)
 
-  refused-told : ((readSays table).number ≡ allDone → ⊥) → planTold table (length out) ≡ readSays table
-  unfolding planTold
-  refused-told n = off _ _ (ne_eqb (readSays table).number allDone n)
+  refused_told : ((read_says table).number ≡ all_done → ⊥) → plan_told table (length out) ≡ read_says table
+  unfolding plan_told
+  refused_told n = off _ _ (ne_eqb (read_says table).number all_done n)
 
-  accepted-out : (readSays table).number ≡ allDone → planOut table out ≡ plannedInto (tableIn table) out
-  unfolding planOut
-  accepted-out e = on _ _ (eq-eqb (readSays table).number allDone e)
+  accepted_out : (read_says table).number ≡ all_done → plan_out table out ≡ planned_into (table_in table) out
+  unfolding plan_out
+  accepted_out e = on _ _ (eq-eqb (read_says table).number all_done e)
 
-  refused-out : ((readSays table).number ≡ allDone → ⊥) → planOut table out ≡ out
-  unfolding planOut
-  refused-out n = off _ _ (ne_eqb (readSays table).number allDone n)
+  refused_out : ((read_says table).number ≡ all_done → ⊥) → plan_out table out ≡ out
+  unfolding plan_out
+  refused_out n = off _ _ (ne_eqb (read_says table).number all_done n)
 
 -- what number 0 comes with
 pub record Done (table out : List ℕ) (r : Answer) (after : List ℕ) : Type 0 where
-  pub accepted : (readSays table).number ≡ allDone
-  pub done : (planSays (tableIn table) (length out)).number ≡ allDone
-  pub passes : Passes (tableIn table) (plan (tableIn table))
-  pub room : scheduleLength (tableIn table) ≤ length out
-  pub tells : told r ≡ tell allDone (scheduleLength (tableIn table))
-  pub left : after ≡ bytes_of (tableIn table) (plan (tableIn table)) ++ drop (scheduleLength (tableIn table)) out
-  pub front : take (told r).place after ≡ bytes_of (tableIn table) (plan (tableIn table))
+  pub accepted : (read_says table).number ≡ all_done
+  pub done : (plan_says (table_in table) (length out)).number ≡ all_done
+  pub passes : Passes (table_in table) (plan (table_in table))
+  pub room : schedule_length (table_in table) ≤ length out
+  pub tells : told r ≡ tell all_done (schedule_length (table_in table))
+  pub left : after ≡ bytes_of (table_in table) (plan (table_in table)) ++ drop (schedule_length (table_in table)) out
+  pub front : take (told r).place after ≡ bytes_of (table_in table) (plan (table_in table))
 
 module _ (table out : List ℕ) (r : Answer) (after : List ℕ) (g : PlanGives table out r after) where
   abbrev tab : Table
-  tab = tableIn table
+  tab = table_in table
 
-  pub says : (readSays table).number ≡ allDone → told r ≡ planSays tab (length out)
-  says e = g.0 ∙ accepted-told table out e
+  pub says : (read_says table).number ≡ all_done → told r ≡ plan_says tab (length out)
+  says e = g.0 ∙ accepted_told table out e
 
-  pub says-refused : ((readSays table).number ≡ allDone → ⊥) → told r ≡ readSays table
-  says-refused n = g.0 ∙ refused-told table out n
+  pub says_refused : ((read_says table).number ≡ all_done → ⊥) → told r ≡ read_says table
+  says_refused n = g.0 ∙ refused_told table out n
 
   -- number 0 comes of an accepted table only
-  read-accepted : (told r).number ≡ allDone → (readSays table).number ≡ allDone
-  read-accepted z =
-      split (eqb (readSays table).number allDone)
-      (λ q. eqb-true (readSays table).number allDone q)
-      (λ q. let n = eqb-false (readSays table).number allDone q in absurd (n (sym (ap (λ (t : Told). t.number) (says-refused n)) ∙ z)))
+  read_accepted : (told r).number ≡ all_done → (read_says table).number ≡ all_done
+  read_accepted z =
+      split (eqb (read_says table).number all_done)
+      (λ q. eqb-true (read_says table).number all_done q)
+      (λ q. let n = eqb-false (read_says table).number all_done q in absurd (n (sym (ap (λ (t : Told). t.number) (says_refused n)) ∙ z)))
 
-  pub done : (told r).number ≡ allDone → Done table out r after
+  pub done : (told r).number ≡ all_done → Done table out r after
   done z =
-      let e = read-accepted z in
+      let e = read_accepted z in
       let F = (read_keeps table).accepted e in
-      let d : (planSays tab (length out)).number ≡ allDone = sym (ap (λ (t : Told). t.number) (says e)) ∙ z in
-      let (A, h) = done-gives tab F (length out) d in
-      let t = says e ∙ done-where tab F (length out) (plan tab) A h in
-      let l = g.1 ∙ accepted-out table out e ∙ into-done tab out d in
+      let d : (plan_says tab (length out)).number ≡ all_done = sym (ap (λ (t : Told). t.number) (says e)) ∙ z in
+      let (A, h) = done_gives tab F (length out) d in
+      let t = says e ∙ done_where tab F (length out) (plan tab) A h in
+      let l = g.1 ∙ accepted_out table out e ∙ into_done tab out d in
       record {
         accepted = e;
         done = d;
@@ -109,12 +109,12 @@ module _ (table out : List ℕ) (r : Answer) (after : List ℕ) (g : PlanGives t
         room = h;
         tells = t;
         left = l;
-        front = ap (λ (t : Told). take t.place after) t ∙ ap (take (scheduleLength tab)) l ∙ take_at (bytes_of tab (plan tab)) (drop (scheduleLength tab) out) (scheduleLength tab) (bytes-length tab (plan tab));
+        front = ap (λ (t : Told). take t.place after) t ∙ ap (take (schedule_length tab)) l ∙ take_at (bytes_of tab (plan tab)) (drop (schedule_length tab) out) (schedule_length tab) (bytes_length tab (plan tab));
       }
 
-  pub unchanged : ((told r).number ≡ allDone → ⊥) → after ≡ out
+  pub unchanged : ((told r).number ≡ all_done → ⊥) → after ≡ out
   unchanged n =
-      g.1 ∙ split (eqb (readSays table).number allDone)
-      (λ q. let e = eqb-true (readSays table).number allDone q in
-      accepted-out table out e ∙ into-refused tab out (λ z. n (ap (λ (t : Told). t.number) (says e) ∙ z)))
-      (λ q. refused-out table out (eqb-false (readSays table).number allDone q))
+      g.1 ∙ split (eqb (read_says table).number all_done)
+      (λ q. let e = eqb-true (read_says table).number all_done q in
+      accepted_out table out e ∙ into_refused tab out (λ z. n (ap (λ (t : Told). t.number) (says e) ∙ z)))
+      (λ q. refused_out table out (eqb-false (read_says table).number all_done q))

@@ -2,8 +2,8 @@
 use Rattle.std.specs.Prelude.{ℕ, ◌≡◌, List, length}
 use Rattle.rules.specs.Numbers.{told}
 use Rattle.rules.specs.declared.Answer.{Answer}
-use Rattle.plan.specs.Planning.{planTold, planOut}
+use Rattle.plan.specs.Planning.{plan_told, plan_out}
 
 -- r is what `plan` answers for these table bytes and this lent buffer, and `after` what it leaves in the buffer
 abbrev pub PlanGives : (table out : List ℕ) → Answer → (after : List ℕ) → Type 0
-PlanGives table out r after = (told r ≡ planTold table (length out)) × (after ≡ planOut table out)
+PlanGives table out r after = (told r ≡ plan_told table (length out)) × (after ≡ plan_out table out)

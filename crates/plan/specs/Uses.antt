@@ -2,42 +2,42 @@
 use Rattle.std.specs.Prelude.{ℕ, zero, suc, ◌+◌, ◌≤◌, ◌<◌, List, ◌≡◌, get_or, set}
 use Rattle.rules.specs.Windows as windows
 use Rattle.rules.specs.Windows.{Table}
-use Rattle.rules.specs.Table.{mostSignals, mostUses, Fits}
+use Rattle.rules.specs.Table.{most_signals, most_uses, Fits}
 use Rattle.rules.specs.Reading.{Grid}
 use Rattle.rules.specs.declared.Tasks.{Tasks}
-use Rattle.theory.specs.Chosen.{firstUse, chosen}
-use Rattle.events.specs.Order.{tasksTable}
+use Rattle.theory.specs.Chosen.{first_use, chosen}
+use Rattle.events.specs.Order.{tasks_table}
 use Rattle.form.specs.declared.sides.Side.{Side}
-use Rattle.form.specs.Records.{usersBelow}
-use Rattle.elements.specs.Pass.{passTable}
+use Rattle.form.specs.Records.{users_below}
+use Rattle.elements.specs.Pass.{pass_table}
 use Rattle.plan.specs.declared.uses.Laid.{Laid}
 
 module _ (grid : Grid) (instances : List ℕ) where
   -- the numbers of the tasks below n on one side of signal s
   abbrev pub NumberedFrom : Side → ℕ → ℕ → ℕ → List ℕ → Type 0
-  NumberedFrom side s first n numbers = (k : ℕ) → k < n → get_or numbers k 0 ≡ first + usersBelow grid instances side s k
+  NumberedFrom side s first n numbers = (k : ℕ) → k < n → get_or numbers k 0 ≡ first + users_below grid instances side s k
 
   -- the uses of signal s on both sides
-  abbrev pub usersIn : ℕ → ℕ → ℕ
-  usersIn s tasks = usersBelow grid instances Side.Writers s tasks + usersBelow grid instances Side.Readers s tasks
+  abbrev pub users_in : ℕ → ℕ → ℕ
+  users_in s tasks = users_below grid instances Side.Writers s tasks + users_below grid instances Side.Readers s tasks
 
   pub record Numbered (s first tasks : ℕ) (laid : Laid) : Type 0 where
     pub writers : NumberedFrom Side.Writers s first tasks laid.numbers.writers
-    pub readers : NumberedFrom Side.Readers s (first + usersBelow grid instances Side.Writers s tasks) tasks laid.numbers.readers
-    pub end : laid.end ≡ first + usersIn s tasks
+    pub readers : NumberedFrom Side.Readers s (first + users_below grid instances Side.Writers s tasks) tasks laid.numbers.readers
+    pub end : laid.end ≡ first + users_in s tasks
 
 -- what planning asks of a table
 pub record Planning (tasks : Tasks) (signals : ℕ) (grid : Grid) (h : ℕ) : Type 0 where
-  pub fits : Fits (tasksTable tasks)
-  pub few-signals : signals ≤ mostSignals
-  pub hyper : h ≡ windows.hyper (tasksTable tasks)
-  pub room : firstUse (passTable tasks grid) signals ≤ mostUses
+  pub fits : Fits (tasks_table tasks)
+  pub few_signals : signals ≤ most_signals
+  pub hyper : h ≡ windows.hyper (tasks_table tasks)
+  pub room : first_use (pass_table tasks grid) signals ≤ most_uses
 
 -- the elements of the uses, and the counts, once the signals below n are planned
-unfoldable pub usesPlanned : Table → List ℕ → ℕ → List ℕ
-usesPlanned tab uses zero = uses
-usesPlanned tab uses (suc n) = (chosen tab n (usesPlanned tab uses n)).uses
+unfoldable pub uses_planned : Table → List ℕ → ℕ → List ℕ
+uses_planned tab uses zero = uses
+uses_planned tab uses (suc n) = (chosen tab n (uses_planned tab uses n)).uses
 
-unfoldable pub countsPlanned : Table → List ℕ → List ℕ → ℕ → List ℕ
-countsPlanned tab counts uses zero = counts
-countsPlanned tab counts uses (suc n) = set (countsPlanned tab counts uses n) n (chosen tab n (usesPlanned tab uses n)).count
+unfoldable pub counts_planned : Table → List ℕ → List ℕ → ℕ → List ℕ
+counts_planned tab counts uses zero = counts
+counts_planned tab counts uses (suc n) = set (counts_planned tab counts uses n) n (chosen tab n (uses_planned tab uses n)).count

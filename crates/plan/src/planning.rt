@@ -2,11 +2,11 @@
 ghost use Rattle.std.specs.Prelude.{◌≡◌, ◌≤◌, length, get_or};
 ghost use Rattle.rules.specs.Words.{total};
 ghost use Rattle.rules.specs.Windows as windows;
-ghost use Rattle.rules.specs.Table.{mostSignals, Fits};
+ghost use Rattle.rules.specs.Table.{most_signals, Fits};
 ghost use Rattle.rules.specs.Reading.{table_of};
 ghost use Rattle.rules.specs.Numbers.{told};
-ghost use Rattle.rules.specs.Answers.{planSays};
-ghost use Rattle.plan.specs.Planning.{plannedInto};
+ghost use Rattle.rules.specs.Answers.{plan_says};
+ghost use Rattle.plan.specs.Planning.{planned_into};
 ghost use Rattle.plan.specs.Gives.{PlanGives};
 
 use crate::uses::plan_uses;
@@ -17,7 +17,7 @@ use table::read_table;
 
 // The elements of all signals together.
 fn in_all(counts: &[u8; MOST_SIGNALS], signals: usize) -> usize
-    requires { signals ≤ mostSignals }
+    requires { signals ≤ most_signals }
     ensures { result ≡ total (λ s. get_or counts.now s 0) signals }
 {
     let mut sum: usize = 0;
@@ -38,7 +38,7 @@ fn plan_table(
     out: &mut [u8],
 ) -> Answer
     requires { Fits (table_of tasks signals grid.now) × (hyper ≡ windows.hyper (table_of tasks signals grid.now)) }
-    ensures { (told result ≡ planSays (table_of tasks signals grid.now) (length out.old)) × (out.new ≡ plannedInto (table_of tasks signals grid.now) out.old) }
+    ensures { (told result ≡ plan_says (table_of tasks signals grid.now) (length out.old)) × (out.new ≡ planned_into (table_of tasks signals grid.now) out.old) }
 {
     let n = signals.count;
     let mut counts = [0u8; MOST_SIGNALS];

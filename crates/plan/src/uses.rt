@@ -1,9 +1,9 @@
 // The elements of all uses of an accepted table, in the order of their records.
 ghost use Rattle.std.specs.Prelude.{◌≡◌, ◌+◌, ◌<◌, ◌≤◌};
-ghost use Rattle.rules.specs.Table.{mostTasks, mostSignals, mostUses};
-ghost use Rattle.form.specs.Records.{usersBelow};
-ghost use Rattle.elements.specs.Pass.{passTable};
-ghost use Rattle.plan.specs.Uses.{NumberedFrom, Numbered, usersIn, Planning, usesPlanned, countsPlanned};
+ghost use Rattle.rules.specs.Table.{most_tasks, most_signals, most_uses};
+ghost use Rattle.form.specs.Records.{users_below};
+ghost use Rattle.elements.specs.Pass.{pass_table};
+ghost use Rattle.plan.specs.Uses.{NumberedFrom, Numbered, users_in, Planning, uses_planned, counts_planned};
 
 use elements::{Numbers, plan_signal};
 use events::order_events;
@@ -32,8 +32,8 @@ fn number_side(
     side: Side,
     first: usize,
 ) -> SideNumbers
-    requires { (tasks ≤ mostTasks) × (signal < mostSignals) × (first + usersBelow grid.now instances.now side signal tasks ≤ mostUses) }
-    ensures { NumberedFrom grid.now instances.now side signal first tasks result.firsts × (result.end ≡ first + usersBelow grid.now instances.now side signal tasks) }
+    requires { (tasks ≤ most_tasks) × (signal < most_signals) × (first + users_below grid.now instances.now side signal tasks ≤ most_uses) }
+    ensures { NumberedFrom grid.now instances.now side signal first tasks result.firsts × (result.end ≡ first + users_below grid.now instances.now side signal tasks) }
 {
     let mut firsts = [0usize; MOST_TASKS];
     let mut end = first;
@@ -54,7 +54,7 @@ fn number_uses(
     signal: usize,
     first: usize,
 ) -> Laid
-    requires { (tasks ≤ mostTasks) × (signal < mostSignals) × (first + usersIn grid.now instances.now signal tasks ≤ mostUses) }
+    requires { (tasks ≤ most_tasks) × (signal < most_signals) × (first + users_in grid.now instances.now signal tasks ≤ most_uses) }
     ensures { Numbered grid.now instances.now signal first tasks result }
 {
     let written = number_side(grid, instances, tasks, signal, Side::Writers, first);
@@ -77,7 +77,7 @@ pub fn plan_uses(
     uses: &mut [u8; MOST_USES],
 )
     requires { Planning tasks signals grid.now hyper }
-    ensures { (counts.new ≡ countsPlanned (passTable tasks grid.now) counts.old uses.old signals) × (uses.new ≡ usesPlanned (passTable tasks grid.now) uses.old signals) }
+    ensures { (counts.new ≡ counts_planned (pass_table tasks grid.now) counts.old uses.old signals) × (uses.new ≡ uses_planned (pass_table tasks grid.now) uses.old signals) }
 {
     let events = order_events(tasks, hyper);
     let instances = instances_of(tasks, hyper);

@@ -1,45 +1,45 @@
 -- The demands are met: specs/Demands.antt, proved.
-use Rattle.theory.proofs.Proved.{hyper-least, live-when-needed, latest-value, any-round, refused-write-changes-nothing, in-plan-order, plan-takes-lowest, at-most-two-each, no-longer-schedule}
-use Rattle.simulation.proofs.Fit.{fit-exactly, leads-inside}
+use Rattle.theory.proofs.Proved.{hyper_least, live_when_needed, latest_value, any_round, refused_write_changes_nothing, in_plan_order, plan_takes_lowest, at_most_two_each, no_longer_schedule}
+use Rattle.simulation.proofs.Fit.{fit_exactly, leads_inside}
 use Rattle.promises.specs.Demands.{Demands}
-use Rattle.promises.proofs.Tables.{tables-exactly, tables-first}
-use Rattle.promises.proofs.Plans.{all-plans-rightly}
-use Rattle.promises.proofs.Lists.{all-lists-rightly}
-use Rattle.promises.proofs.Schedules.{schedules-exactly, plans-pass}
-use Rattle.promises.proofs.Runs.{any-calls, loads-exactly, runs-as-promised}
-use Rattle.promises.proofs.FromC.{same-from-C}
-use Rattle.promises.proofs.Listings.{all-listed-whole}
+use Rattle.promises.proofs.Tables.{tables_exactly, tables_first}
+use Rattle.promises.proofs.Plans.{all_plans_rightly}
+use Rattle.promises.proofs.Lists.{all_lists_rightly}
+use Rattle.promises.proofs.Schedules.{schedules_exactly, plans_pass}
+use Rattle.promises.proofs.Runs.{any_calls, loads_exactly, runs_as_promised}
+use Rattle.promises.proofs.FromC.{same_from_C}
+use Rattle.promises.proofs.Listings.{all_listed_whole}
 
-pub demands-met : Demands
-demands-met = record {
+pub demands_met : Demands
+demands_met = record {
   first = record {
-    tables = tables-first;
-    plan = λ table out r after g. (all-plans-rightly table out r after g).unchanged;
-    list = λ table signal list r after g. (all-lists-rightly table signal list r after g).unchanged;
-    load = λ m table schedule r g. (loads-exactly m table schedule r g).refused;
-    calls = any-calls;
-    fitness = fit-exactly;
-    leads-inside = leads-inside;
-    from-C = same-from-C;
+    tables = tables_first;
+    plan = λ table out r after g. (all_plans_rightly table out r after g).unchanged;
+    list = λ table signal list r after g. (all_lists_rightly table signal list r after g).unchanged;
+    load = λ m table schedule r g. (loads_exactly m table schedule r g).refused;
+    calls = any_calls;
+    fitness = fit_exactly;
+    leads_inside = leads_inside;
+    from_C = same_from_C;
   };
   second = record {
-    tables = tables-exactly;
-    schedules = schedules-exactly;
-    plans = all-plans-rightly;
-    plans-pass = plans-pass;
-    lists = all-lists-rightly;
+    tables = tables_exactly;
+    schedules = schedules_exactly;
+    plans = all_plans_rightly;
+    plans_pass = plans_pass;
+    lists = all_lists_rightly;
   };
-  third = record { loads = loads-exactly; runs = runs-as-promised };
+  third = record { loads = loads_exactly; runs = runs_as_promised };
   ground = record {
-    least = hyper-least;
-    needed = live-when-needed;
-    latest = latest-value;
-    any-round = any-round;
-    refused-nothing = refused-write-changes-nothing;
-    order = in-plan-order;
-    lowest = plan-takes-lowest;
-    two-each = at-most-two-each;
-    longest = no-longer-schedule;
-    listings = all-listed-whole;
+    least = hyper_least;
+    needed = live_when_needed;
+    latest = latest_value;
+    any_round = any_round;
+    refused_nothing = refused_write_changes_nothing;
+    order = in_plan_order;
+    lowest = plan_takes_lowest;
+    two_each = at_most_two_each;
+    longest = no_longer_schedule;
+    listings = all_listed_whole;
   };
 }

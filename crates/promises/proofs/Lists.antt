@@ -4,52 +4,52 @@ use mathlib.Core.Path.{◌≡◌, sym, ap, subst, ◌∙◌}
 use mathlib.Core.List.{List, ◌++◌}
 use lib.ListN.{length, drop}
 use borrow.Author.Tests.{eq-eqb, ne_eqb}
-use Rattle.rules.specs.Plan.{liveList}
-use Rattle.rules.specs.Numbers.{Told, tell, told, allDone}
-use Rattle.rules.specs.Answers.{liveSays}
-use Rattle.rules.specs.Reading.{tableIn, readSays}
+use Rattle.rules.specs.Plan.{live_list}
+use Rattle.rules.specs.Numbers.{Told, tell, told, all_done}
+use Rattle.rules.specs.Answers.{live_says}
+use Rattle.rules.specs.Reading.{table_in, read_says}
 use Rattle.rules.specs.declared.Answer.{Answer}
-use Rattle.theory.specs.First.{FirstBrokenElse, BrokenLive, liveRuleTold, liveRules}
-use Rattle.theory.proofs.Proved.{live-says-first}
-use Rattle.fields.proofs.Told.{told-exact}
+use Rattle.theory.specs.First.{FirstBrokenElse, BrokenLive, live_rule_told, live_rules}
+use Rattle.theory.proofs.Proved.{live_says_first}
+use Rattle.fields.proofs.Told.{told_exact}
 use Rattle.fields.proofs.Whens.{on, off}
 use Rattle.lives.specs.declared.LiveValue.{LiveValue}
-use Rattle.lives.specs.Lives.{liveValues, liveTold, liveFront}
+use Rattle.lives.specs.Lives.{live_values, live_told, live_front}
 use Rattle.lives.specs.Gives.{ListGives}
 use Rattle.promises.specs.Lists.{ListsRightly, AllListsRightly}
 
 module _ (table : List ℕ) (signal : ℕ) (list : List LiveValue) where
-  accepted-told : (readSays table).number ≡ allDone → liveTold table signal (length list) ≡ liveSays (tableIn table) signal (length list)
-  unfolding liveTold
-  accepted-told e = on _ _ (eq-eqb (readSays table).number allDone e)
+  accepted_told : (read_says table).number ≡ all_done → live_told table signal (length list) ≡ live_says (table_in table) signal (length list)
+  unfolding live_told
+  accepted_told e = on _ _ (eq-eqb (read_says table).number all_done e)
 
-  refused-told : ((readSays table).number ≡ allDone → ⊥) → liveTold table signal (length list) ≡ readSays table
-  unfolding liveTold
-  refused-told n = off _ _ (ne_eqb (readSays table).number allDone n)
+  refused_told : ((read_says table).number ≡ all_done → ⊥) → live_told table signal (length list) ≡ read_says table
+  unfolding live_told
+  refused_told n = off _ _ (ne_eqb (read_says table).number all_done n)
 
-  front-done : (liveTold table signal (length list)).number ≡ allDone
-      → liveFront table signal (length list) list ≡ liveValues (tableIn table) signal ++ drop (length (liveValues (tableIn table) signal)) list
-  unfolding liveFront
-  front-done e = on _ _ (eq-eqb (liveTold table signal (length list)).number allDone e)
+  front_done : (live_told table signal (length list)).number ≡ all_done
+      → live_front table signal (length list) list ≡ live_values (table_in table) signal ++ drop (length (live_values (table_in table) signal)) list
+  unfolding live_front
+  front_done e = on _ _ (eq-eqb (live_told table signal (length list)).number all_done e)
 
-  front-refused : ((liveTold table signal (length list)).number ≡ allDone → ⊥) → liveFront table signal (length list) list ≡ list
-  unfolding liveFront
-  front-refused n = off _ _ (ne_eqb (liveTold table signal (length list)).number allDone n)
+  front_refused : ((live_told table signal (length list)).number ≡ all_done → ⊥) → live_front table signal (length list) list ≡ list
+  unfolding live_front
+  front_refused n = off _ _ (ne_eqb (live_told table signal (length list)).number all_done n)
 
 module _ (table : List ℕ) (signal : ℕ) (list : List LiveValue) (r : Answer) (after : List LiveValue) (g : ListGives table signal list r after) where
-  number_is : (told r).number ≡ (liveTold table signal (length list)).number
+  number_is : (told r).number ≡ (live_told table signal (length list)).number
   number_is = ap (λ (t : Told). t.number) g.0
 
   rightly : ListsRightly table signal list r after
   rightly = record {
-    table-refused = λ n. g.0 ∙ refused-told table signal list n;
-    first-broken = λ e. subst
-        (FirstBrokenElse (BrokenLive (tableIn table) signal (length list)) (liveRuleTold (tableIn table) signal) (tell allDone (length (liveList (tableIn table) signal))) liveRules)
-        (sym (g.0 ∙ accepted-told table signal list e)) (live-says-first (tableIn table) signal (length list));
-    filled = λ z. g.1 ∙ front-done table signal list (sym number_is ∙ z);
-    unchanged = λ n. g.1 ∙ front-refused table signal list (λ z. n (number_is ∙ z));
-    one = λ q b h. (told-exact q r (h.0 ∙ sym g.0), h.1 ∙ sym g.1);
+    table_refused = λ n. g.0 ∙ refused_told table signal list n;
+    first_broken = λ e. subst
+        (FirstBrokenElse (BrokenLive (table_in table) signal (length list)) (live_rule_told (table_in table) signal) (tell all_done (length (live_list (table_in table) signal))) live_rules)
+        (sym (g.0 ∙ accepted_told table signal list e)) (live_says_first (table_in table) signal (length list));
+    filled = λ z. g.1 ∙ front_done table signal list (sym number_is ∙ z);
+    unchanged = λ n. g.1 ∙ front_refused table signal list (λ z. n (number_is ∙ z));
+    one = λ q b h. (told_exact q r (h.0 ∙ sym g.0), h.1 ∙ sym g.1);
   }
 
-pub all-lists-rightly : AllListsRightly
-all-lists-rightly = rightly
+pub all_lists_rightly : AllListsRightly
+all_lists_rightly = rightly

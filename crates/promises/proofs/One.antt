@@ -1,11 +1,11 @@
 -- No other result meets a contract: specs/One.antt, proved.
 use mathlib.Core.Path.{◌≡◌, sym, ◌∙◌}
-use Rattle.fields.proofs.Told.{told-exact}
-use Rattle.records.proofs.Exact.{task-exact, signal-exact, access-exact, end-exact}
+use Rattle.fields.proofs.Told.{told_exact}
+use Rattle.records.proofs.Exact.{task_exact, signal_exact, access_exact, end_exact}
 use Rattle.lives.specs.declared.list.Lived.{Lived}
-use Rattle.table.proofs.Exact.{table-exact}
+use Rattle.table.proofs.Exact.{table_exact}
 use Rattle.machine.specs.Calls.{keeping, answered}
-use Rattle.simulation.proofs.Started.{loads-exact}
+use Rattle.simulation.proofs.Started.{loads_exact}
 use Rattle.promises.specs.One.{One, Determined}
 
 -- a contract that names its result
@@ -25,44 +25,44 @@ lived a b p q = λ i. record { answer = p i; values = q i }
 
 pub determined : Determined
 determined = record {
-  read_table = λ bytes a b p q. table-exact a b (p ∙ sym q);
-  plan = λ table out a b p q. paired a b (told-exact a.0 b.0 (p.0 ∙ sym q.0)) (p.1 ∙ sym q.1);
-  put-listing = λ table schedule out at a b p q. let e = p.0 ∙ sym q.0 in let f = p.1 ∙ sym q.1 in λ i. ((e i).used, f i, (e i).bytes);
-  live-list = λ table signal list a b p q. paired a b (told-exact a.0 b.0 (p.0 ∙ sym q.0)) (p.1 ∙ sym q.1);
-  lent = λ table signal room before a b p q. lived a b (told-exact a.answer b.answer (p.0 ∙ sym q.0)) (p.1 ∙ sym q.1);
-  check-schedule = λ table schedule a b p q. told-exact a b (p ∙ sym q);
+  read_table = λ bytes a b p q. table_exact a b (p ∙ sym q);
+  plan = λ table out a b p q. paired a b (told_exact a.0 b.0 (p.0 ∙ sym q.0)) (p.1 ∙ sym q.1);
+  put_listing = λ table schedule out at a b p q. let e = p.0 ∙ sym q.0 in let f = p.1 ∙ sym q.1 in λ i. ((e i).used, f i, (e i).bytes);
+  live_list = λ table signal list a b p q. paired a b (told_exact a.0 b.0 (p.0 ∙ sym q.0)) (p.1 ∙ sym q.1);
+  lent = λ table signal room before a b p q. lived a b (told_exact a.answer b.answer (p.0 ∙ sym q.0)) (p.1 ∙ sym q.1);
+  check_schedule = λ table schedule a b p q. told_exact a b (p ∙ sym q);
   new = named _;
-  load = loads-exact;
+  load = loads_exact;
   step = λ m. named _;
   read = λ m task signal. named _;
   write = λ m task signal word. named _;
-  lists-load = λ n d s table schedule a b p q.
-      let e = loads-exact (keeping n d s) table schedule (answered a.0 (keeping a.1 a.2 a.3)) (answered b.0 (keeping b.1 b.2 b.3)) p q in
+  lists_load = λ n d s table schedule a b p q.
+      let e = loads_exact (keeping n d s) table schedule (answered a.0 (keeping a.1 a.2 a.3)) (answered b.0 (keeping b.1 b.2 b.3)) p q in
       λ i. ((e i).answer, (e i).machine.numbers, (e i).machine.defaults, (e i).machine.store);
-  lists-step = λ n d s a b p q. let e = p ∙ sym q in λ i. ((e i).answer, (e i).numbers, (e i).store);
-  lists-read = λ n s task signal. named _;
-  lists-write = λ n s task signal word a b p q. let e = p ∙ sym q in λ i. ((e i).answer, (e i).store);
-  lists-open = λ n task. named _;
+  lists_step = λ n d s a b p q. let e = p ∙ sym q in λ i. ((e i).answer, (e i).numbers, (e i).store);
+  lists_read = λ n s task signal. named _;
+  lists_write = λ n s task signal word a b p q. let e = p ∙ sym q in λ i. ((e i).answer, (e i).store);
+  lists_open = λ n task. named _;
   number = λ a. named _;
   place = λ a. named _;
-  task = λ bytes count place a b p q. task-exact a b (p ∙ sym q);
-  signal = λ bytes count place a b p q. signal-exact a b (p ∙ sym q);
-  access = λ bytes tasks signals count last place a b p q. access-exact a b (p ∙ sym q);
-  end = λ bytes place a b p q. end-exact a b (p ∙ sym q);
+  task = λ bytes count place a b p q. task_exact a b (p ∙ sym q);
+  signal = λ bytes count place a b p q. signal_exact a b (p ∙ sym q);
+  access = λ bytes tasks signals count last place a b p q. access_exact a b (p ∙ sym q);
+  end = λ bytes place a b p q. end_exact a b (p ∙ sym q);
   reader = λ table place. named _;
-  read-grid = λ bytes. named _;
-  press-table = λ table a b p q. paired a b (p.0 ∙ sym q.0) (p.1 ∙ sym q.1);
-  press-plan = λ table out a b p q. threefold a b (p.0 ∙ sym q.0) (p.1 ∙ sym q.1) (p.2 ∙ sym q.2);
-  press-check = λ table schedule a b p q. paired a b (p.0 ∙ sym q.0) (p.1 ∙ sym q.1);
-  press-live = λ table signal list a b p q. threefold a b (p.0 ∙ sym q.0) (p.1 ∙ sym q.1) (p.2 ∙ sym q.2);
-  press-new = λ a b p q. let e = p ∙ sym q in λ i. ((e i).numbers, (e i).defaults, (e i).store);
-  press-load = λ n d s table schedule a b p q.
+  read_grid = λ bytes. named _;
+  press_table = λ table a b p q. paired a b (p.0 ∙ sym q.0) (p.1 ∙ sym q.1);
+  press_plan = λ table out a b p q. threefold a b (p.0 ∙ sym q.0) (p.1 ∙ sym q.1) (p.2 ∙ sym q.2);
+  press_check = λ table schedule a b p q. paired a b (p.0 ∙ sym q.0) (p.1 ∙ sym q.1);
+  press_live = λ table signal list a b p q. threefold a b (p.0 ∙ sym q.0) (p.1 ∙ sym q.1) (p.2 ∙ sym q.2);
+  press_new = λ a b p q. let e = p ∙ sym q in λ i. ((e i).numbers, (e i).defaults, (e i).store);
+  press_load = λ n d s table schedule a b p q.
       let e = p.0 ∙ sym q.0 in
       let f = p.1 ∙ sym q.1 in
       let m = p.2 ∙ sym q.2 in
       λ i. (e i, f i, (m i).numbers, (m i).defaults, (m i).store);
-  press-step = λ n d s a b p q. threefold a b (p.0 ∙ sym q.0) (p.1 ∙ sym q.1) (p.2 ∙ sym q.2);
-  press-read = λ n s task signal a b p q. paired a b (p.0 ∙ sym q.0) (p.1 ∙ sym q.1);
-  press-write = λ n s task signal word a b p q. paired a b (p.0 ∙ sym q.0) (p.2 ∙ sym q.2);
-  press-open = λ n task a b p q. paired a b (p.0 ∙ sym q.0) (p.1 ∙ sym q.1);
+  press_step = λ n d s a b p q. threefold a b (p.0 ∙ sym q.0) (p.1 ∙ sym q.1) (p.2 ∙ sym q.2);
+  press_read = λ n s task signal a b p q. paired a b (p.0 ∙ sym q.0) (p.1 ∙ sym q.1);
+  press_write = λ n s task signal word a b p q. paired a b (p.0 ∙ sym q.0) (p.2 ∙ sym q.2);
+  press_open = λ n task a b p q. paired a b (p.0 ∙ sym q.0) (p.1 ∙ sym q.1);
 }

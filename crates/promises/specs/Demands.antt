@@ -4,7 +4,7 @@
 -- follows for whatever the function gave. proofs/Demands.antt proves them all. Assumes nothing.
 use Rattle.std.specs.Prelude.{ℕ, ◌≡◌, true, List}
 use Rattle.rules.specs.Windows.{Table}
-use Rattle.rules.specs.Numbers.{told, allDone}
+use Rattle.rules.specs.Numbers.{told, all_done}
 use Rattle.rules.specs.declared.Answer.{Answer}
 use Rattle.theory.specs.Promises.{LiveWhenNeeded, HyperLeast, Latest, AnyRound, RefusedNothing, PlanOrder, TakesLowest, TwoEach, LongestSchedule}
 use Rattle.plan.specs.Gives.{PlanGives}
@@ -25,7 +25,7 @@ use Rattle.promises.specs.FromC.{SameFromC}
 
 -- the answer is a refusal
 abbrev pub Refused : Answer → Type 0
-Refused r = (told r).number ≡ allDone → ⊥
+Refused r = (told r).number ≡ all_done → ⊥
 
 -- 1. Every call ends with an answer, however bad what it is given: no function above has a `requires`, and the checker proves that each ends.
 pub record Demand1 : Type 0 where
@@ -44,9 +44,9 @@ pub record Demand1 : Type 0 where
   pub calls : AnyCalls
   -- A state is fit exactly when document 01's sentence holds of it, and nothing in a fit state leads outside it.
   pub fitness : (m : Machine) → FitExactly m
-  pub leads-inside : (m : Machine) → fit m ≡ true → LeadsInside m
+  pub leads_inside : (m : Machine) → fit m ≡ true → LeadsInside m
   -- What C is given of tables, plans, live lists and checks is what these functions give.
-  pub from-C : SameFromC
+  pub from_C : SameFromC
 
 -- 2. A table is accepted exactly when the rules hold; a schedule exactly when it has the form and bounds, each reader is sent to the value LET gives it
 -- and no two values needed at one tick share an element. The plan is the one fixed plan: it passes the check, no passing schedule gives any signal fewer
@@ -55,7 +55,7 @@ pub record Demand2 : Type 0 where
   pub tables : TablesExactly
   pub schedules : SchedulesExactly
   pub plans : AllPlansRightly
-  pub plans-pass : PlansPass
+  pub plans_pass : PlansPass
   pub lists : AllListsRightly
 
 -- 3. Loaded, whatever its state, with any table and any schedule that passes, then asked anything, refused calls among them, over any number of
@@ -73,12 +73,12 @@ pub record Ground : Type 0 where
   pub needed : (tab : Table) → LiveWhenNeeded tab
   -- The value of a signal is what the latest publication published, in every hyper-period alike; a refused write changes none.
   pub latest : (tab : Table) → Latest tab
-  pub any-round : (tab : Table) → AnyRound tab
-  pub refused-nothing : (tab : Table) → RefusedNothing tab
+  pub any_round : (tab : Table) → AnyRound tab
+  pub refused_nothing : (tab : Table) → RefusedNothing tab
   -- Plan order is by opening tick, then task; the plan takes the lowest free element; with n tasks at most 2n values of a signal are live at one tick.
   pub order : (tab : Table) → PlanOrder tab
   pub lowest : TakesLowest
-  pub two-each : (tab : Table) → TwoEach tab
+  pub two_each : (tab : Table) → TwoEach tab
   -- No schedule is longer than 28,802 bytes, and the listing of any table stands whole on every page with room for the longest.
   pub longest : (tab : Table) → LongestSchedule tab
   pub listings : AllListedWhole

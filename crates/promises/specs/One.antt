@@ -42,13 +42,13 @@ pub record Determined : Type 1 where
   -- plan::plan
   pub plan : (table out : List ℕ) → One (λ (x : Answer × List ℕ). PlanGives table out x.0 x.1)
   -- text::put_listing: where the page ends, what is left in the lent schedule and on the page
-  pub put-listing : (table schedule out : List ℕ) (at : ℕ) → One (λ (x : ℕ × List ℕ × List ℕ). ListingGives table schedule out at x.0 x.1 x.2)
+  pub put_listing : (table schedule out : List ℕ) (at : ℕ) → One (λ (x : ℕ × List ℕ × List ℕ). ListingGives table schedule out at x.0 x.1 x.2)
   -- lives::live_list
-  pub live-list : (table : List ℕ) (signal : ℕ) (list : List LiveValue) → One (λ (x : Answer × List LiveValue). ListGives table signal list x.0 x.1)
+  pub live_list : (table : List ℕ) (signal : ℕ) (list : List LiveValue) → One (λ (x : Answer × List LiveValue). ListGives table signal list x.0 x.1)
   -- lives::lent
   pub lent : (table : List ℕ) (signal room : ℕ) (before : LiveValue) → One (λ (r : Lived). LentGives table signal room before r)
   -- inspect::check_schedule
-  pub check-schedule : (table schedule : List ℕ) → One (λ (r : Answer). CheckGives table schedule r)
+  pub check_schedule : (table schedule : List ℕ) → One (λ (r : Answer). CheckGives table schedule r)
   -- machine::Machine::new
   pub new : One (λ (r : Machine). NewGives r)
   -- machine::Machine::load
@@ -60,15 +60,15 @@ pub record Determined : Type 1 where
   -- machine::Machine::write
   pub write : (m : Machine) (task signal word : ℕ) → One (λ (r : Stepped). WriteGives m task signal word r)
   -- machine::lists::load
-  pub lists-load : (n d s table schedule : List ℕ) → One (λ (x : Answer × List ℕ × List ℕ × List ℕ). ListsLoadGives n d s table schedule x.0 x.1 x.2 x.3)
+  pub lists_load : (n d s table schedule : List ℕ) → One (λ (x : Answer × List ℕ × List ℕ × List ℕ). ListsLoadGives n d s table schedule x.0 x.1 x.2 x.3)
   -- machine::lists::step
-  pub lists-step : (n d s : List ℕ) → One (λ (x : Answer × List ℕ × List ℕ). ListsStepGives n d s x.0 x.1 x.2)
+  pub lists_step : (n d s : List ℕ) → One (λ (x : Answer × List ℕ × List ℕ). ListsStepGives n d s x.0 x.1 x.2)
   -- machine::lists::read
-  pub lists-read : (n s : List ℕ) (task signal : ℕ) → One (λ (r : WordRead). ListsReadGives n s task signal r)
+  pub lists_read : (n s : List ℕ) (task signal : ℕ) → One (λ (r : WordRead). ListsReadGives n s task signal r)
   -- machine::lists::write
-  pub lists-write : (n s : List ℕ) (task signal word : ℕ) → One (λ (x : Answer × List ℕ). ListsWriteGives n s task signal word x.0 x.1)
+  pub lists_write : (n s : List ℕ) (task signal word : ℕ) → One (λ (x : Answer × List ℕ). ListsWriteGives n s task signal word x.0 x.1)
   -- machine::lists::open_instance
-  pub lists-open : (n : List ℕ) (task : ℕ) → One (λ (r : InstanceRead). ListsOpenGives n task r)
+  pub lists_open : (n : List ℕ) (task : ℕ) → One (λ (r : InstanceRead). ListsOpenGives n task r)
   -- answers::number
   pub number : (a : Answer) → One (λ (n : ℕ). NumberGives a n)
   -- answers::place
@@ -84,26 +84,26 @@ pub record Determined : Type 1 where
   -- reader::new, reader::moved, reader::placed
   pub reader : (table : Bor (List ℕ)) (place : Cursor) → One (λ (r : Reader). ReaderGives table place r)
   -- sections::grid::read_grid
-  pub read-grid : (bytes : List ℕ) → One (λ (g : Grid). GridGives bytes g)
+  pub read_grid : (bytes : List ℕ) → One (λ (g : Grid). GridGives bytes g)
   -- ---- the library for firmware: number, place, and what is lent
 
   -- export::press_table
-  pub press-table : (table : List ℕ) → One (λ (x : ℕ × ℕ). PressTableGives table x.0 x.1)
+  pub press_table : (table : List ℕ) → One (λ (x : ℕ × ℕ). PressTableGives table x.0 x.1)
   -- export::press_plan
-  pub press-plan : (table out : List ℕ) → One (λ (x : ℕ × ℕ × List ℕ). PressPlanGives table out x.0 x.1 x.2)
+  pub press_plan : (table out : List ℕ) → One (λ (x : ℕ × ℕ × List ℕ). PressPlanGives table out x.0 x.1 x.2)
   -- export::press_check
-  pub press-check : (table schedule : List ℕ) → One (λ (x : ℕ × ℕ). PressCheckGives table schedule x.0 x.1)
+  pub press_check : (table schedule : List ℕ) → One (λ (x : ℕ × ℕ). PressCheckGives table schedule x.0 x.1)
   -- export::press_live
-  pub press-live : (table : List ℕ) (signal : ℕ) (list : List LiveValue) → One (λ (x : ℕ × ℕ × List LiveValue). PressLiveGives table signal list x.0 x.1 x.2)
+  pub press_live : (table : List ℕ) (signal : ℕ) (list : List LiveValue) → One (λ (x : ℕ × ℕ × List LiveValue). PressLiveGives table signal list x.0 x.1 x.2)
   -- export::press_lists_new
-  pub press-new : One (λ (x : List ℕ × List ℕ × List ℕ). PressNewGives x.0 x.1 x.2)
+  pub press_new : One (λ (x : List ℕ × List ℕ × List ℕ). PressNewGives x.0 x.1 x.2)
   -- export::press_lists_load
-  pub press-load : (n d s table schedule : List ℕ) → One (λ (x : ℕ × ℕ × List ℕ × List ℕ × List ℕ). PressLoadGives n d s table schedule x.0 x.1 x.2 x.3 x.4)
+  pub press_load : (n d s table schedule : List ℕ) → One (λ (x : ℕ × ℕ × List ℕ × List ℕ × List ℕ). PressLoadGives n d s table schedule x.0 x.1 x.2 x.3 x.4)
   -- export::press_lists_step
-  pub press-step : (n d s : List ℕ) → One (λ (x : ℕ × List ℕ × List ℕ). PressStepGives n d s x.0 x.1 x.2)
+  pub press_step : (n d s : List ℕ) → One (λ (x : ℕ × List ℕ × List ℕ). PressStepGives n d s x.0 x.1 x.2)
   -- export::press_lists_read
-  pub press-read : (n s : List ℕ) (task signal : ℕ) → One (λ (x : ℕ × ℕ). PressReadGives n s task signal x.0 x.1)
+  pub press_read : (n s : List ℕ) (task signal : ℕ) → One (λ (x : ℕ × ℕ). PressReadGives n s task signal x.0 x.1)
   -- export::press_lists_write
-  pub press-write : (n s : List ℕ) (task signal word : ℕ) → One (λ (x : ℕ × List ℕ). PressWriteGives n s task signal word x.0 x.1)
+  pub press_write : (n s : List ℕ) (task signal word : ℕ) → One (λ (x : ℕ × List ℕ). PressWriteGives n s task signal word x.0 x.1)
   -- export::press_lists_open
-  pub press-open : (n : List ℕ) (task : ℕ) → One (λ (x : ℕ × ℕ). PressOpenGives n task x.0 x.1)
+  pub press_open : (n : List ℕ) (task : ℕ) → One (λ (x : ℕ × ℕ). PressOpenGives n task x.0 x.1)

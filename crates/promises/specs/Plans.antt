@@ -3,33 +3,33 @@
 use Rattle.std.specs.Prelude.{ℕ, ◌≤◌, ◌<◌, ◌≡◌, List, ◌++◌, ◌↔◌, ◌⊎◌, length, drop}
 use Rattle.rules.specs.Schedule.{Schedule, base, Passes}
 use Rattle.rules.specs.Plan as plans
-use Rattle.rules.specs.Bytes.{bytes_of, scheduleLength}
-use Rattle.rules.specs.Numbers.{tell, told, allDone, manyElements, manyInAll}
-use Rattle.rules.specs.Answers.{checkSays}
-use Rattle.rules.specs.Reading.{tableIn, readSays}
+use Rattle.rules.specs.Bytes.{bytes_of, schedule_length}
+use Rattle.rules.specs.Numbers.{tell, told, all_done, many_elements, many_in_all}
+use Rattle.rules.specs.Answers.{check_says}
+use Rattle.rules.specs.Reading.{table_in, read_says}
 use Rattle.rules.specs.declared.Answer.{Answer}
-use Rattle.theory.specs.First.{FirstBrokenElse, BrokenPlan, planRuleTold, planRules}
+use Rattle.theory.specs.First.{FirstBrokenElse, BrokenPlan, plan_rule_told, plan_rules}
 use Rattle.plan.specs.Gives.{PlanGives}
 
 pub record PlansRightly (table out : List ℕ) (r : Answer) (after : List ℕ) : Type 0 where
   -- A table that is refused is refused with its own number and place.
-  pub table-refused : ((readSays table).number ≡ allDone → ⊥) → told r ≡ readSays table
+  pub table_refused : ((read_says table).number ≡ all_done → ⊥) → told r ≡ read_says table
   -- Of an accepted table: planning is done exactly where some schedule passes, given room in the buffer.
-  pub done : (readSays table).number ≡ allDone → ((told r).number ≡ allDone) ↔ (((E : Schedule) × Passes (tableIn table) E) × (scheduleLength (tableIn table) ≤ length out))
+  pub done : (read_says table).number ≡ all_done → ((told r).number ≡ all_done) ↔ (((E : Schedule) × Passes (table_in table) E) × (schedule_length (table_in table) ≤ length out))
   -- Of an accepted table: the first rule of 12 to 14 that is broken gives number and place; where none is, the bytes written are told.
-  pub first-broken : (readSays table).number ≡ allDone
-      → FirstBrokenElse (BrokenPlan (tableIn table) (length out)) (planRuleTold (tableIn table)) (tell allDone (scheduleLength (tableIn table))) (planRules (tableIn table)) (told r)
+  pub first_broken : (read_says table).number ≡ all_done
+      → FirstBrokenElse (BrokenPlan (table_in table) (length out)) (plan_rule_told (table_in table)) (tell all_done (schedule_length (table_in table))) (plan_rules (table_in table)) (told r)
   -- What it writes at the front passes the check, the answer tells its bytes, and the bytes after it stay.
-  pub written : (told r).number ≡ allDone
-      → (after ≡ bytes_of (tableIn table) (plans.plan (tableIn table)) ++ drop (scheduleLength (tableIn table)) out)
-      × (checkSays (tableIn table) (bytes_of (tableIn table) (plans.plan (tableIn table))) ≡ tell allDone 0) × (told r ≡ tell allDone (scheduleLength (tableIn table)))
+  pub written : (told r).number ≡ all_done
+      → (after ≡ bytes_of (table_in table) (plans.plan (table_in table)) ++ drop (schedule_length (table_in table)) out)
+      × (check_says (table_in table) (bytes_of (table_in table) (plans.plan (table_in table))) ≡ tell all_done 0) × (told r ≡ tell all_done (schedule_length (table_in table)))
   -- No schedule that passes gives any signal fewer elements, nor all of them together.
-  pub fewest : (readSays table).number ≡ allDone → (E : Schedule) → Passes (tableIn table) E
-      → ((s : ℕ) → s < (tableIn table).signals → (plans.plan (tableIn table)).count s ≤ E.count s) × (base (plans.plan (tableIn table)) (tableIn table).signals ≤ base E (tableIn table).signals)
+  pub fewest : (read_says table).number ≡ all_done → (E : Schedule) → Passes (table_in table) E
+      → ((s : ℕ) → s < (table_in table).signals → (plans.plan (table_in table)).count s ≤ E.count s) × (base (plans.plan (table_in table)) (table_in table).signals ≤ base E (table_in table).signals)
   -- Too many elements, of one signal or in all, are told only where no schedule passes.
-  pub too_many : ((told r).number ≡ manyElements) ⊎ ((told r).number ≡ manyInAll) → (readSays table).number ≡ allDone → (E : Schedule) → Passes (tableIn table) E → ⊥
+  pub too_many : ((told r).number ≡ many_elements) ⊎ ((told r).number ≡ many_in_all) → (read_says table).number ≡ all_done → (E : Schedule) → Passes (table_in table) E → ⊥
   -- A refusal changes nothing.
-  pub unchanged : ((told r).number ≡ allDone → ⊥) → after ≡ out
+  pub unchanged : ((told r).number ≡ all_done → ⊥) → after ≡ out
   -- No other answer, and no other contents of the buffer, meet the contract.
   pub one : (q : Answer) (b : List ℕ) → PlanGives table out q b → (q ≡ r) × (b ≡ after)
 

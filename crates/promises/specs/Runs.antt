@@ -1,14 +1,14 @@
 -- Demand 3, about `machine::Machine`, `machine::lists` and the C functions over a machine's lists, in any mixture: after loading any table with any schedule that passes, no permitted read or write inside its window is refused,
 -- and each read gives the value that its signal had when the reader's window opened. proofs/Runs.antt proves it. Assumes nothing.
 use Rattle.std.specs.Prelude.{ℕ, ◌≡◌, true, false, List, [], ◌∷◌, map, ◌↔◌, ◌⊎◌}
-use Rattle.rules.specs.Windows.{Table, opens, isOpen}
+use Rattle.rules.specs.Windows.{Table, opens, is_open}
 use Rattle.rules.specs.Schedule.{Schedule, Passes}
-use Rattle.rules.specs.Numbers.{tell, told, allDone, noAccess, outside, unfit}
+use Rattle.rules.specs.Numbers.{tell, told, all_done, no_access, outside, unfit}
 use Rattle.rules.specs.Bytes.{bytes_of}
-use Rattle.rules.specs.Reading.{tableIn, readSays}
+use Rattle.rules.specs.Reading.{table_in, read_says}
 use Rattle.rules.specs.Meaning.{word, Call, step, read, write, now, value_at}
 use Rattle.rules.specs.Stores.{word_in}
-use Rattle.rules.specs.Loading.{Request, load, call, accepts, Reply, Story, untold, since, telling, meantReplies}
+use Rattle.rules.specs.Loading.{Request, load, call, accepts, Reply, Story, untold, since, telling, meant_replies}
 use Rattle.rules.specs.declared.Answer.{Answer}
 use Rattle.theory.specs.Promises.{Permitted}
 use Rattle.machine.specs.declared.Machine.{Machine}
@@ -18,7 +18,7 @@ use Rattle.machine.specs.Calls.{keeping, unloaded, fit}
 use Rattle.machine.specs.Load.{Loads}
 use Rattle.machine.specs.Gives.{NewGives, StepGives, ReadGives, WriteGives, ListsLoadGives, ListsStepGives, ListsReadGives, ListsWriteGives}
 use Rattle.export.specs.Gives.{PressNewGives, PressLoadGives, PressStepGives, PressReadGives, PressWriteGives}
-use Rattle.simulation.specs.Simulates.{Said, said, outcomeSaid}
+use Rattle.simulation.specs.Simulates.{Said, said, outcome_said}
 
 -- ---- what is called
 
@@ -31,18 +31,18 @@ pub data Gives (m : Machine) : Request → Said → Machine → Type 0 where
   reads : (task signal : ℕ) (r : WordRead) → ReadGives m task signal r → Gives m (call (read task signal)) (said (told r.answer) r.word) m
   writes : (task signal w : ℕ) (r : Stepped) → WriteGives m task signal w r → Gives m (call (write task signal (word w))) (said (told r.answer) 0) r.machine
   -- over m's lists, in place: machine::lists
-  lists-loads : (table schedule : List ℕ) (r : Answer) (n d s : List ℕ) → ListsLoadGives m.numbers m.defaults m.store table schedule r n d s
+  lists_loads : (table schedule : List ℕ) (r : Answer) (n d s : List ℕ) → ListsLoadGives m.numbers m.defaults m.store table schedule r n d s
       → Gives m (load table schedule) (said (told r) 0) (keeping n d s)
-  lists-steps : (r : Answer) (n s : List ℕ) → ListsStepGives m.numbers m.defaults m.store r n s → Gives m (call step) (said (told r) 0) (keeping n m.defaults s)
-  lists-reads : (task signal : ℕ) (r : WordRead) → ListsReadGives m.numbers m.store task signal r → Gives m (call (read task signal)) (said (told r.answer) r.word) m
-  lists-writes : (task signal w : ℕ) (r : Answer) (s : List ℕ) → ListsWriteGives m.numbers m.store task signal w r s
+  lists_steps : (r : Answer) (n s : List ℕ) → ListsStepGives m.numbers m.defaults m.store r n s → Gives m (call step) (said (told r) 0) (keeping n m.defaults s)
+  lists_reads : (task signal : ℕ) (r : WordRead) → ListsReadGives m.numbers m.store task signal r → Gives m (call (read task signal)) (said (told r.answer) r.word) m
+  lists_writes : (task signal w : ℕ) (r : Answer) (s : List ℕ) → ListsWriteGives m.numbers m.store task signal w r s
       → Gives m (call (write task signal (word w))) (said (told r) 0) (keeping m.numbers m.defaults s)
   -- from C: press_lists_load, press_lists_step, press_lists_read and press_lists_write
-  press-loads : (table schedule : List ℕ) (number place : ℕ) (n d s : List ℕ) → PressLoadGives m.numbers m.defaults m.store table schedule number place n d s
+  press_loads : (table schedule : List ℕ) (number place : ℕ) (n d s : List ℕ) → PressLoadGives m.numbers m.defaults m.store table schedule number place n d s
       → Gives m (load table schedule) (said (tell number place) 0) (keeping n d s)
-  press-steps : (number : ℕ) (n s : List ℕ) → PressStepGives m.numbers m.defaults m.store number n s → Gives m (call step) (said (tell number 0) 0) (keeping n m.defaults s)
-  press-reads : (task signal number w : ℕ) → PressReadGives m.numbers m.store task signal number w → Gives m (call (read task signal)) (said (tell number 0) w) m
-  press-writes : (task signal w number : ℕ) (s : List ℕ) → PressWriteGives m.numbers m.store task signal w number s
+  press_steps : (number : ℕ) (n s : List ℕ) → PressStepGives m.numbers m.defaults m.store number n s → Gives m (call step) (said (tell number 0) 0) (keeping n m.defaults s)
+  press_reads : (task signal number w : ℕ) → PressReadGives m.numbers m.store task signal number w → Gives m (call (read task signal)) (said (tell number 0) w) m
+  press_writes : (task signal w number : ℕ) (s : List ℕ) → PressWriteGives m.numbers m.store task signal w number s
       → Gives m (call (write task signal (word w))) (said (tell number 0) 0) (keeping m.numbers m.defaults s)
 
 -- Requests of any kind in any order, made by any of these functions, each of the machine that the one before left.
@@ -53,24 +53,24 @@ pub data Run : Machine → List Request → List Said → Machine → Type 0 whe
 -- ---- what is promised
 
 -- the number, place and word of a reply
-abbrev pub replySaid : Reply → Said
-replySaid (Reply.told t) = said t 0
-replySaid (Reply.said o) = outcomeSaid o
+abbrev pub reply_said : Reply → Said
+reply_said (Reply.told t) = said t 0
+reply_said (Reply.said o) = outcome_said o
 
 -- the table that was loaded last, with the calls since then: a refused loading is none of them
-unfoldable pub storyOf : Story → List Request → Story
-storyOf h [] = h
-storyOf h (e ∷ es) = storyOf (telling h e) es
+unfoldable pub story_of : Story → List Request → Story
+story_of h [] = h
+story_of h (e ∷ es) = story_of (telling h e) es
 
 -- Demand 1 of any call, however bad what it is given.
 pub record AnyCall (m : Machine) (e : Request) (a : Said) (n : Machine) : Type 0 where
   -- A refusal leaves the machine as it was, and has word 0.
-  pub refused : (a.told.number ≡ allDone → ⊥) → (n ≡ m) × (a.word ≡ 0)
+  pub refused : (a.told.number ≡ all_done → ⊥) → (n ≡ m) × (a.word ≡ 0)
   -- 25 is given to a step, a read or a write exactly on states that are not fit; no request leads from a fit state to one that is not,
-  pub unfit-is : (c : Call) → e ≡ call c → (a.told.number ≡ unfit) ↔ (fit m ≡ false)
+  pub unfit_is : (c : Call) → e ≡ call c → (a.told.number ≡ unfit) ↔ (fit m ≡ false)
   pub stays_fit : fit m ≡ true → fit n ≡ true
   -- and an accepted loading leads from any state to a fit one.
-  pub accepted : (table schedule : List ℕ) → e ≡ load table schedule → a.told.number ≡ allDone → fit n ≡ true
+  pub accepted : (table schedule : List ℕ) → e ≡ load table schedule → a.told.number ≡ all_done → fit n ≡ true
 
 abbrev pub AnyCalls : Type 0
 AnyCalls = (m : Machine) (e : Request) (a : Said) (n : Machine) → Gives m e a n → AnyCall m e a n
@@ -80,25 +80,25 @@ pub record NextCall (tab : Table) (h : List Call) (m : Machine) : Type 0 where
   -- 25 is not given: the state is fit.
   pub ready : fit m ≡ true
   -- A permitted read inside its window is not refused, and gives the value that the signal had when the window opened.
-  pub read-inside : (k s i : ℕ) → Permitted tab tab.reads k s → isOpen tab k i (now h) ≡ true → (a : Said) (n : Machine) → Gives m (call (read k s)) a n
-      → a ≡ said (tell allDone 0) (word_in (value_at tab h s (opens tab k i)))
+  pub read_inside : (k s i : ℕ) → Permitted tab tab.reads k s → is_open tab k i (now h) ≡ true → (a : Said) (n : Machine) → Gives m (call (read k s)) a n
+      → a ≡ said (tell all_done 0) (word_in (value_at tab h s (opens tab k i)))
   -- A permitted write inside its window is not refused, and no step is.
-  pub write-inside : (k s w i : ℕ) → Permitted tab tab.writes k s → isOpen tab k i (now h) ≡ true → (a : Said) (n : Machine) → Gives m (call (write k s (word w))) a n → a ≡ said (tell allDone 0) 0
-  pub steps : (a : Said) (n : Machine) → Gives m (call step) a n → a ≡ said (tell allDone 0) 0
+  pub write_inside : (k s w i : ℕ) → Permitted tab tab.writes k s → is_open tab k i (now h) ≡ true → (a : Said) (n : Machine) → Gives m (call (write k s (word w))) a n → a ≡ said (tell all_done 0) 0
+  pub steps : (a : Said) (n : Machine) → Gives m (call step) a n → a ≡ said (tell all_done 0) 0
   -- Outside its window either is refused with 24, and without such an access with 23; the machine stays as it was.
-  pub read-outside : (k s : ℕ) → Permitted tab tab.reads k s → ((i : ℕ) → isOpen tab k i (now h) ≡ true → ⊥) → (a : Said) (n : Machine) → Gives m (call (read k s)) a n → (a ≡ said (tell outside 0) 0) × (n ≡ m)
-  pub write-outside : (k s w : ℕ) → Permitted tab tab.writes k s → ((i : ℕ) → isOpen tab k i (now h) ≡ true → ⊥) → (a : Said) (n : Machine) → Gives m (call (write k s (word w))) a n → (a ≡ said (tell outside 0) 0) × (n ≡ m)
-  pub read-unknown : (k s : ℕ) → (Permitted tab tab.reads k s → ⊥) → (a : Said) (n : Machine) → Gives m (call (read k s)) a n → (a ≡ said (tell noAccess 0) 0) × (n ≡ m)
-  pub write-unknown : (k s w : ℕ) → (Permitted tab tab.writes k s → ⊥) → (a : Said) (n : Machine) → Gives m (call (write k s (word w))) a n → (a ≡ said (tell noAccess 0) 0) × (n ≡ m)
+  pub read_outside : (k s : ℕ) → Permitted tab tab.reads k s → ((i : ℕ) → is_open tab k i (now h) ≡ true → ⊥) → (a : Said) (n : Machine) → Gives m (call (read k s)) a n → (a ≡ said (tell outside 0) 0) × (n ≡ m)
+  pub write_outside : (k s w : ℕ) → Permitted tab tab.writes k s → ((i : ℕ) → is_open tab k i (now h) ≡ true → ⊥) → (a : Said) (n : Machine) → Gives m (call (write k s (word w))) a n → (a ≡ said (tell outside 0) 0) × (n ≡ m)
+  pub read_unknown : (k s : ℕ) → (Permitted tab tab.reads k s → ⊥) → (a : Said) (n : Machine) → Gives m (call (read k s)) a n → (a ≡ said (tell no_access 0) 0) × (n ≡ m)
+  pub write_unknown : (k s w : ℕ) → (Permitted tab tab.writes k s → ⊥) → (a : Said) (n : Machine) → Gives m (call (write k s (word w))) a n → (a ≡ said (tell no_access 0) 0) × (n ≡ m)
 
 -- After the requests es, answered by rs, the machine is m.
 pub record AsPromised (es : List Request) (rs : List Said) (m : Machine) : Type 0 where
   -- All answers are as they are meant: a loading by its bytes, a call by the table loaded last and the calls since then, with no element or hyper-period in it.
-  pub answers : rs ≡ map replySaid (meantReplies untold es)
+  pub answers : rs ≡ map reply_said (meant_replies untold es)
   -- So it goes on with the next call,
-  pub running : (tab : Table) (h : List Call) → storyOf untold es ≡ since tab h → NextCall tab h m
+  pub running : (tab : Table) (h : List Call) → story_of untold es ≡ since tab h → NextCall tab h m
   -- and nothing has happened to the machine where no loading was accepted yet.
-  pub untouched : storyOf untold es ≡ untold → m ≡ unloaded
+  pub untouched : story_of untold es ≡ untold → m ≡ unloaded
 
 -- So it is for all requests, from `Machine::new` and `press_lists_new` on,
 pub record RunsAsPromised : Type 0 where
@@ -109,9 +109,9 @@ pub record RunsAsPromised : Type 0 where
 
 -- A loading is accepted exactly where the table is, and the schedule's bytes are those of one that passes; a refused one leaves the machine as it was.
 pub record LoadedExactly (m : Machine) (table schedule : List ℕ) (r : Stepped) : Type 0 where
-  pub accepted : ((told r.answer).number ≡ allDone) ↔ (((readSays table).number ≡ allDone) × ((E : Schedule) × Passes (tableIn table) E × (schedule ≡ bytes_of (tableIn table) E)))
-  pub done : (told r.answer).number ≡ allDone → r.answer ≡ Answer.Done 0
-  pub refused : ((told r.answer).number ≡ allDone → ⊥) → r.machine ≡ m
+  pub accepted : ((told r.answer).number ≡ all_done) ↔ (((read_says table).number ≡ all_done) × ((E : Schedule) × Passes (table_in table) E × (schedule ≡ bytes_of (table_in table) E)))
+  pub done : (told r.answer).number ≡ all_done → r.answer ≡ Answer.Done 0
+  pub refused : ((told r.answer).number ≡ all_done → ⊥) → r.machine ≡ m
   -- No other result meets the contract.
   pub one : (q : Stepped) → Loads m table schedule q → q ≡ r
 

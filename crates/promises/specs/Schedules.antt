@@ -3,23 +3,23 @@
 use Rattle.std.specs.Prelude.{ℕ, ◌≡◌, List, ◌↔◌, take}
 use Rattle.rules.specs.Schedule.{Schedule, Passes}
 use Rattle.rules.specs.Bytes.{bytes_of}
-use Rattle.rules.specs.Numbers.{told, allDone}
-use Rattle.rules.specs.Reading.{tableIn, readSays}
+use Rattle.rules.specs.Numbers.{told, all_done}
+use Rattle.rules.specs.Reading.{table_in, read_says}
 use Rattle.rules.specs.declared.Answer.{Answer}
-use Rattle.theory.specs.First.{FirstBroken, BrokenCheck, checkTold, checkRules}
+use Rattle.theory.specs.First.{FirstBroken, BrokenCheck, check_told, check_rules}
 use Rattle.plan.specs.Gives.{PlanGives}
 use Rattle.inspect.specs.Gives.{CheckGives}
 
 pub record ChecksExactly (table schedule : List ℕ) (r : Answer) : Type 0 where
   -- A table that is refused is refused with its own number and place.
-  pub table-refused : ((readSays table).number ≡ allDone → ⊥) → told r ≡ readSays table
+  pub table_refused : ((read_says table).number ≡ all_done → ⊥) → told r ≡ read_says table
   -- Of an accepted table: done exactly where the bytes are those of a schedule that passes. `Passes` has document 01's words, and speaks of ticks:
   -- at no tick are two values of one signal live in one element.
-  pub accepted : (readSays table).number ≡ allDone → ((told r).number ≡ allDone) ↔ ((E : Schedule) × Passes (tableIn table) E × (schedule ≡ bytes_of (tableIn table) E))
+  pub accepted : (read_says table).number ≡ all_done → ((told r).number ≡ all_done) ↔ ((E : Schedule) × Passes (table_in table) E × (schedule ≡ bytes_of (table_in table) E))
   -- Of an accepted table: the first rule of 15 to 22 that is broken gives number and place, and 0 at 0 is told where none is.
-  pub first-broken : (readSays table).number ≡ allDone → FirstBroken (BrokenCheck (tableIn table) schedule) (checkTold (tableIn table)) (checkRules (tableIn table)) (told r)
+  pub first_broken : (read_says table).number ≡ all_done → FirstBroken (BrokenCheck (table_in table) schedule) (check_told (table_in table)) (check_rules (table_in table)) (told r)
   -- A refused table never passes: 0 is told of accepted tables only.
-  pub done : (told r).number ≡ allDone → ((readSays table).number ≡ allDone) × (r ≡ Answer.Done 0)
+  pub done : (told r).number ≡ all_done → ((read_says table).number ≡ all_done) × (r ≡ Answer.Done 0)
   -- No other answer meets the contract.
   pub one : (q : Answer) → CheckGives table schedule q → q ≡ r
 
@@ -29,5 +29,5 @@ SchedulesExactly = (table schedule : List ℕ) (r : Answer) → CheckGives table
 
 -- The two functions together: the bytes that `plan` tells at the front of the buffer pass `check_schedule` with the same table.
 abbrev pub PlansPass : Type 0
-PlansPass = (table out : List ℕ) (r : Answer) (after : List ℕ) → PlanGives table out r after → (told r).number ≡ allDone
+PlansPass = (table out : List ℕ) (r : Answer) (after : List ℕ) → PlanGives table out r after → (told r).number ≡ all_done
     → (q : Answer) → CheckGives table (take (told r).place after) q → q ≡ Answer.Done 0

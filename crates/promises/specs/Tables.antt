@@ -3,9 +3,9 @@
 use Rattle.std.specs.Prelude.{ℕ, ◌≡◌, List, ◌↔◌}
 use Rattle.rules.specs.Windows.{Table, hyper}
 use Rattle.rules.specs.Table.{Fits}
-use Rattle.rules.specs.Numbers.{told, allDone}
+use Rattle.rules.specs.Numbers.{told, all_done}
 use Rattle.rules.specs.Encode.{encode}
-use Rattle.rules.specs.Reading.{Grid, table_of, tableIn, readSays}
+use Rattle.rules.specs.Reading.{Grid, table_of, table_in, read_says}
 use Rattle.theory.specs.Promises.{IsLeast}
 use Rattle.theory.specs.FirstRecord.{ReadFirst}
 use Rattle.theory.specs.TableBytes.{SameTable, Wide, AreBytes}
@@ -15,7 +15,7 @@ use Rattle.table.specs.Gives.{TableGives}
 
 pub record ReadExactly (bytes : List ℕ) (r : TableRead) : Type 0 where
   -- it is accepted exactly where the bytes are those of a table that keeps every rule,
-  pub accepted : ((told r.answer).number ≡ allDone) ↔ ((tab : Table) × Fits tab × Wide tab × (bytes ≡ encode tab))
+  pub accepted : ((told r.answer).number ≡ all_done) ↔ ((tab : Table) × Fits tab × Wide tab × (bytes ≡ encode tab))
   -- what is read, with the accesses that `read_grid` gives, is that table, and there is no other,
   pub same : (g : Grid) → GridGives bytes g → (tab : Table) → Fits tab → Wide tab → bytes ≡ encode tab → SameTable (table_of r.tasks r.signals g) tab
   -- with its hyper-period.
@@ -31,9 +31,9 @@ pub record TellsFirst (bytes : List ℕ) (r : TableRead) : Type 0 where
   -- The answer is that of the first broken rule, and where: theory/specs/FirstRecord.antt says of the bytes alone when a record breaks each of 1 to 6.
   pub first : ReadFirst bytes (told r.answer)
   -- H, by which 8 goes, is the least common multiple of the periods that are read.
-  pub least : IsLeast (tableIn bytes).period (tableIn bytes).tasks (hyper (tableIn bytes))
-  -- It is `readSays`, which planning, the live list and the check tell too of a table that is refused (`table-refused`).
-  pub same : told r.answer ≡ readSays bytes
+  pub least : IsLeast (table_in bytes).period (table_in bytes).tasks (hyper (table_in bytes))
+  -- It is `read_says`, which planning, the live list and the check tell too of a table that is refused (`table-refused`).
+  pub same : told r.answer ≡ read_says bytes
 
 abbrev pub TablesFirst : Type 0
 TablesFirst = (bytes : List ℕ) (r : TableRead) → TableGives bytes r → TellsFirst bytes r

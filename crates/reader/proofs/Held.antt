@@ -28,11 +28,11 @@ use Rattle.reader.proofs.Reader.TheLaws as T'
 
 -- ---- the table's bytes
 
-abbrev pub bytesVal : Bor (List ℕ) → Val
-bytesVal s = slice_val s.ref_ptr (length s.now)
+abbrev pub bytes_val : Bor (List ℕ) → Val
+bytes_val s = slice_val s.ref_ptr (length s.now)
 
-abbrev pub bytesOwn : Lft → Bor (List ℕ) → Fml
-bytesOwn κ s = (ShrSlice (named 0) κ u8).own_val s (bytesVal s ∷ [])
+abbrev pub bytes_own : Lft → Bor (List ℕ) → Fml
+bytes_own κ s = (ShrSlice (named 0) κ u8).own_val s (bytes_val s ∷ [])
 
 -- ---- the reader
 
@@ -40,28 +40,28 @@ bytesOwn κ s = (ShrSlice (named 0) κ u8).own_val s (bytesVal s ∷ [])
 abbrev pub named_at : Lft → NamedLft
 named_at κ = named_lft 1 0 tt (κ, tt)
 
-abbrev pub erasedAt : Lft → NamedLft
-erasedAt κ = record { mir = erased; lft = κ }
+abbrev pub erased_at : Lft → NamedLft
+erased_at κ = record { mir = erased; lft = κ }
 
-abbrev pub readerRow : Lfts 1 → RattleType
-readerRow κs = T.the_row (named_at κs.0)
+abbrev pub reader_row : Lfts 1 → RattleType
+reader_row κs = T.the_row (named_at κs.0)
 
-abbrev pub readerOwn : Lft → Reader → Fml
-readerOwn κ d = (readerRow (κ, tt)).own d (T'.lowered d ∷ [])
+abbrev pub reader_own : Lft → Reader → Fml
+reader_own κ d = (reader_row (κ, tt)).own d (T'.lowered d ∷ [])
 
 -- what a place owns, and what the two parts of a reader own
-abbrev pub placeOwn : Cursor → Fml
-placeOwn c = (C₁.the_row).own_val c (C₁'.lowered c ∷ [])
+abbrev pub place_own : Cursor → Fml
+place_own c = (C₁.the_row).own_val c (C₁'.lowered c ∷ [])
 
-abbrev pub partsOwn : Lft → Bor (List ℕ) → Cursor → Fml
-partsOwn κ s c = fsep (bytesOwn κ s) (fsep (placeOwn c) ftrue)
+abbrev pub parts_own : Lft → Bor (List ℕ) → Cursor → Fml
+parts_own κ s c = fsep (bytes_own κ s) (fsep (place_own c) ftrue)
 
 module _ {M : Type 1} {𝓤 : Ura M} (𝓛 : Logic 𝓤) (κ : Lft) where
-  pub opens : (d : Reader) → ent 𝓤 (sem 𝓛 (readerOwn κ d)) (sem 𝓛 (partsOwn κ d.table d.place))
+  pub opens : (d : Reader) → ent 𝓤 (sem 𝓛 (reader_own κ d)) (sem 𝓛 (parts_own κ d.table d.place))
   opens d =
-      qed 𝓛 (‵ (readerOwn κ d) ∷ []) ∵
-      use1 𝓛 (given (T'.lowered d ∷ [] ≡ T'.lowered d ∷ []) (‵ (partsOwn κ d.table d.place))) (own_open 𝓛 (T.the_type (named_at κ)) (T'.the_laws (named_at κ)) (d.table, (d.place, tt)) (T'.lowered d)) $
+      qed 𝓛 (‵ (reader_own κ d) ∷ []) ∵
+      use1 𝓛 (given (T'.lowered d ∷ [] ≡ T'.lowered d ∷ []) (‵ (parts_own κ d.table d.place))) (own_open 𝓛 (T.the_type (named_at κ)) (T'.the_laws (named_at κ)) (d.table, (d.place, tt)) (T'.lowered d)) $
       learn ! (λ _. done !)
 
-  pub shuts : (s : Bor (List ℕ)) (c : Cursor) → ent 𝓤 (sem 𝓛 (partsOwn κ s c)) (sem 𝓛 (readerOwn κ (record { table = s; place = c })))
+  pub shuts : (s : Bor (List ℕ)) (c : Cursor) → ent 𝓤 (sem 𝓛 (parts_own κ s c)) (sem 𝓛 (reader_own κ (record { table = s; place = c })))
   shuts s c = own_shut 𝓛 (T.the_type (named_at κ)) (T'.the_laws (named_at κ)) (s, (c, tt))

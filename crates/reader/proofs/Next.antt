@@ -1,7 +1,7 @@
 -- A reader that is asked for the next record: it is taken apart, and a method of its place is called on the place and the table.
 --     asks             what the reader and the rest of the parameters own is what such a method asks
 -- and, for a method that is passed a count, at any row R of answers and any fact about one (bytes, count, place, answer):
---     Method, Next     the contracts of the method and of the function.        nextFn      the function's MIR, at the answer's type and the method's symbol
+--     Method, Next     the contracts of the method and of the function.        next_fn      the function's MIR, at the answer's type and the method's symbol
 --     next-meets       that MIR meets `Next` where the method meets `Method`
 -- Assumes nothing.
 use mathlib.Core.Path.{refl}
@@ -36,25 +36,25 @@ use denote.Exit.{yes}
 use Rattle.records.specs.declared.Cursor.{Cursor}
 use Rattle.reader.specs.declared.Reader.{Reader}
 use Rattle.reader.proofs.Answers.{answers}
-use Rattle.reader.proofs.Held.{named_at, bytesVal, bytesOwn, placeOwn, partsOwn, readerRow, readerOwn, opens}
-use Rattle.reader.proofs.Silent.{Done, gives, meets, frees-full}
+use Rattle.reader.proofs.Held.{named_at, bytes_val, bytes_own, place_own, parts_own, reader_row, reader_own, opens}
+use Rattle.reader.proofs.Silent.{Done, gives, meets, frees_full}
 use Rattle.records.specs.contracts.Cursor as C₁
 use Rattle.records.proofs.Cursor.TheLaws as C₁'
 use Rattle.reader.specs.contracts.Reader as T
 use Rattle.reader.proofs.Reader.TheLaws as T'
 
 module _ {M : Type 1} {𝓤 : Ura M} (𝓛 : Logic 𝓤) (κ : Lft) (q : Share) where
-  pub asks : (d : Reader) (P : Fml) → ent 𝓤 (⋆ 𝓛 ((‵ (flft κ q) ⊛ ‵ ftrue) ∷ ‵ (fsep (readerOwn κ d) P) ∷ []))
-      (sep 𝓤 (⋆ 𝓛 ((‵ (flft κ q) ⊛ ‵ ftrue) ∷ ‵ (fsep (placeOwn d.place) (fsep (bytesOwn κ d.table) P)) ∷ [])) (emp 𝓤))
+  pub asks : (d : Reader) (P : Fml) → ent 𝓤 (⋆ 𝓛 ((‵ (flft κ q) ⊛ ‵ ftrue) ∷ ‵ (fsep (reader_own κ d) P) ∷ []))
+      (sep 𝓤 (⋆ 𝓛 ((‵ (flft κ q) ⊛ ‵ ftrue) ∷ ‵ (fsep (place_own d.place) (fsep (bytes_own κ d.table) P)) ∷ [])) (emp 𝓤))
   asks d P =
-      qed 𝓛 ((‵ (flft κ q) ⊛ ‵ ftrue) ∷ ‵ (fsep (readerOwn κ d) P) ∷ []) ∵ move ! (1 ∷ []) $ fsplit ! $ use1 𝓛 (‵ (partsOwn κ d.table d.place)) (opens 𝓛 κ d) $ fsplit ! $ move ! (1 ∷ []) $ fsplit ! $
+      qed 𝓛 ((‵ (flft κ q) ⊛ ‵ ftrue) ∷ ‵ (fsep (reader_own κ d) P) ∷ []) ∵ move ! (1 ∷ []) $ fsplit ! $ use1 𝓛 (‵ (parts_own κ d.table d.place)) (opens 𝓛 κ d) $ fsplit ! $ move ! (1 ∷ []) $ fsplit ! $
       -- [what the place owns; true; what the table owns; what the rest own; the token]
       move ! (2 ∷ 3 ∷ []) $ fjoin ! $ move ! (1 ∷ 0 ∷ []) $ fjoin ! $ move ! (2 ∷ 0 ∷ []) $ join ! $ frame ! $ done !
 
 -- ---- a method that is passed a count
 module _ (R : RattleType) where
-  abbrev pub methodEnded : Ended
-  methodEnded = record {
+  abbrev pub method_ended : Ended
+  method_ended = record {
     signature = record {
       lifetimes = 1;
       outlives = [];
@@ -64,28 +64,28 @@ module _ (R : RattleType) where
     kept = (yes, (yes, (yes, tt)));
   }
 
-  abbrev pub nextEnded : Ended
-  nextEnded = record {
-    signature = record { lifetimes = 1; outlives = []; params = plain readerRow ∷ plain (λ _. usize) ∷ []; result = plain (λ _. R) };
+  abbrev pub next_ended : Ended
+  next_ended = record {
+    signature = record { lifetimes = 1; outlives = []; params = plain reader_row ∷ plain (λ _. usize) ∷ []; result = plain (λ _. R) };
     kept = (yes, (yes, tt));
   }
 
   module _ (Fact : List ℕ → ℕ → Cursor → R.Denot → Type 0) {M : Type 1} (𝓤 : Ura M) where
-    abbrev pub methodClauses : Clauses 𝓤 methodEnded
-    methodClauses κs a = record { ghost = Unit {0}; requires = λ _. emp 𝓤; ensures = λ _ r _. fact 𝓤 (Fact a.1.0.now a.1.1.0 a.0 r) }
+    abbrev pub method_clauses : Clauses 𝓤 method_ended
+    method_clauses κs a = record { ghost = Unit {0}; requires = λ _. emp 𝓤; ensures = λ _ r _. fact 𝓤 (Fact a.1.0.now a.1.1.0 a.0 r) }
 
-    abbrev pub nextClauses : Clauses 𝓤 nextEnded
-    nextClauses κs a = record { ghost = Unit {0}; requires = λ _. emp 𝓤; ensures = λ _ r _. fact 𝓤 (Fact a.0.table.now a.1.0 a.0.place r) }
+    abbrev pub next_clauses : Clauses 𝓤 next_ended
+    next_clauses κs a = record { ghost = Unit {0}; requires = λ _. emp 𝓤; ensures = λ _ r _. fact 𝓤 (Fact a.0.table.now a.1.0 a.0.place r) }
 
     module _ (𝓛 : Logic 𝓤) where
       abbrev pub Method : Contract 𝓤
-      Method = triple_of 𝓛 methodEnded.signature (closing 𝓛 methodEnded methodClauses)
+      Method = triple_of 𝓛 method_ended.signature (closing 𝓛 method_ended method_clauses)
 
       abbrev pub Next : Contract 𝓤
-      Next = triple_of 𝓛 nextEnded.signature (closing 𝓛 nextEnded nextClauses)
+      Next = triple_of 𝓛 next_ended.signature (closing 𝓛 next_ended next_clauses)
 
-abbrev pub nextFn : Ty → Name → Fn
-nextFn τ f = record {
+abbrev pub next_fn : Ty → Name → Fn
+next_fn τ f = record {
   lifetimes = 1;
   outlives = [];
   params = 2;
@@ -104,27 +104,27 @@ module _ {M : Type 1} {𝓤 : Ura M} (𝓛 : Logic 𝓤) (R : RattleType) (Fact 
 
     -- what the method is passed
     abbrev to : (Method R Fact 𝓤 𝓛).Ghost
-    to = (((κ, tt), (q, tt), tt, (d.place, (d.table, (count, tt))), (C₁'.lowered d.place ∷ [], (bytesVal d.table ∷ [], (vint w64 count ∷ [], tt)))), tt)
+    to = (((κ, tt), (q, tt), tt, (d.place, (d.table, (count, tt))), (C₁'.lowered d.place ∷ [], (bytes_val d.table ∷ [], (vint w64 count ∷ [], tt)))), tt)
 
     walk : Holds (has_ty (T'.mir (named 0)) (T'.lowered d)) × WT (T'.lowered d) → Is usize count (vint w64 count ∷ [])
-        → ent 𝓤 (on_entry 𝓛 (nextEnded R).signature (κ, tt) (q, tt) (d, (count, tt)) at)
-        (WpFn 𝓤 H 𝓣.C 𝓣.Λ (nextFn τ f) (T'.lowered d ∷ vint w64 count ∷ []) (Done 𝓛 (nextEnded R) (nextClauses R Fact 𝓤) (κ, tt) (q, tt) tt (d, (count, tt)) at tt))
-    walk wt count-is =
-        qed 𝓛 (raw (on_entry 𝓛 (nextEnded R).signature (κ, tt) (q, tt) (d, (count, tt)) at) ∷ []) ∵ use1 𝓛 (raw ((Method R Fact 𝓤 𝓛).pre to)) (asks 𝓛 κ q d (owns (usize ∷ []) (count, tt) at.1)) $
-        enter ! 𝓣.C 𝓣.Λ (nextFn τ f) (T'.lowered d ∷ vint w64 count ∷ []) _ $
-        alloc1 ! (λ l₀. alloc1 ! (λ l₁. alloc1 ! (λ l₂. alloc1 ! (λ l₃. alloc1 ! (λ l₄. alloc0 ! $ params1 ! $ pass1 ! (init ! 6 refl wt) $ pass1 ! (init ! 4 refl ((uint_Lawful 𝓛 w64).typed count _ count-is).0) $ pass0 ! $
+        → ent 𝓤 (on_entry 𝓛 (next_ended R).signature (κ, tt) (q, tt) (d, (count, tt)) at)
+        (WpFn 𝓤 H 𝓣.C 𝓣.Λ (next_fn τ f) (T'.lowered d ∷ vint w64 count ∷ []) (Done 𝓛 (next_ended R) (next_clauses R Fact 𝓤) (κ, tt) (q, tt) tt (d, (count, tt)) at tt))
+    walk wt count_is =
+        qed 𝓛 (raw (on_entry 𝓛 (next_ended R).signature (κ, tt) (q, tt) (d, (count, tt)) at) ∷ []) ∵ use1 𝓛 (raw ((Method R Fact 𝓤 𝓛).pre to)) (asks 𝓛 κ q d (owns (usize ∷ []) (count, tt) at.1)) $
+        enter ! 𝓣.C 𝓣.Λ (next_fn τ f) (T'.lowered d ∷ vint w64 count ∷ []) _ $
+        alloc1 ! (λ l₀. alloc1 ! (λ l₁. alloc1 ! (λ l₂. alloc1 ! (λ l₃. alloc1 ! (λ l₄. alloc0 ! $ params1 ! $ pass1 ! (init ! 6 refl wt) $ pass1 ! (init ! 4 refl ((uint_Lawful 𝓛 w64).typed count _ count_is).0) $ pass0 ! $
         assigns ! (of_opd ! (load ! (from ! (fld ! refl (stop !))) (look_in ! 6 (sub ! 1 refl (whole !))))) (from ! (stop !)) (init ! 2 refl (tt, wt.1.1.0)) $
         assigns ! (of_opd ! (load ! (from ! (fld ! refl (stop !))) (look_in ! 6 (sub ! 0 refl (whole !))))) (from ! (stop !)) (init ! 0 refl (tt, wt.1.0)) $ move ! (10 ∷ []) $
         -- [what the method asks; the table; …; the place; …; count; …; the reader; …; room for _0; …]
         calls_at ! (fm_of 𝓤 H 𝓛.laws 𝓣) (Method R Fact 𝓤 𝓛) known to (and_then ! (load ! (from ! (stop !)) (look ! 3 refl)) (and_then ! (load ! (from ! (stop !)) (look ! 1 refl)) (and_then ! (load ! (from ! (stop !)) (look ! 5 refl)) (no_more !)))) (λ u.
-        answers ! tt κ q R u (lasts (methodEnded R) (κ, tt) (d.place, (d.table, (count, tt)))) (Fact d.table.now count d.place) (λ r told is.
+        answers ! tt κ q R u (lasts (method_ended R) (κ, tt) (d.place, (d.table, (count, tt)))) (Fact d.table.now count d.place) (λ r told is.
         -- [the answer; the token; the table; …; the place; …; count; …; the reader; …; room for _0; …]
         land ! (from ! (stop !)) (init ! 10 refl (typed r u is)) $ returns ! (look ! 10 refl) $ keep ! (10 ∷ 11 ∷ 8 ∷ 9 ∷ 6 ∷ 7 ∷ 4 ∷ 5 ∷ 2 ∷ 3 ∷ 0 ∷ 1 ∷ []) $
-        frees-full ! $ frees-full ! $ frees-full ! $ frees-full ! $ frees-full ! $ free0 ! $
-        by ! (gives 𝓛 (nextEnded R) (nextClauses R Fact 𝓤) (κ, tt) (q, tt) tt (d, (count, tt)) at tt u r (tt, (tt, tt)) (fact_i 𝓤 _ (emp 𝓤) told)))))))))
+        frees_full ! $ frees_full ! $ frees_full ! $ frees_full ! $ frees_full ! $ free0 ! $
+        by ! (gives 𝓛 (next_ended R) (next_clauses R Fact 𝓤) (κ, tt) (q, tt) tt (d, (count, tt)) at tt u r (tt, (tt, tt)) (fact_i 𝓤 _ (emp 𝓤) told)))))))))
 
-  pub next-meets : Meets 𝓛 (nextEnded R).signature (WpFn 𝓤 H 𝓣.C 𝓣.Λ (nextFn τ f)) (closing 𝓛 (nextEnded R) (nextClauses R Fact 𝓤))
-  next-meets = meets 𝓛 (nextEnded R) (nextClauses R Fact 𝓤) (WpFn 𝓤 H 𝓣.C 𝓣.Λ (nextFn τ f)) (WpFn-mono 𝓤 H 𝓛.laws 𝓣 (nextFn τ f)) ((λ κs x l. refl), ((λ κs x l. refl), tt))
+  pub next_meets : Meets 𝓛 (next_ended R).signature (WpFn 𝓤 H 𝓣.C 𝓣.Λ (next_fn τ f)) (closing 𝓛 (next_ended R) (next_clauses R Fact 𝓤))
+  next_meets = meets 𝓛 (next_ended R) (next_clauses R Fact 𝓤) (WpFn 𝓤 H 𝓣.C 𝓣.Λ (next_fn τ f)) (WpFn-mono 𝓤 H 𝓛.laws 𝓣 (next_fn τ f)) ((λ κs x l. refl), ((λ κs x l. refl), tt))
       (λ κs. (LL.vals (T.the_type (named_at κs.0)) (T'.the_laws (named_at κs.0)), (uint_vals w64, tt)))
       (λ κs. (LL.tells (T.the_type (named_at κs.0)) (T'.the_laws (named_at κs.0)), (uint_Tells w64, tt)))
       (λ κs qs bounds a g are. walk κs.0 qs.0 a.0 a.1.0 ((LL.lawful (T.the_type (named_at κs.0)) (T'.the_laws (named_at κs.0)) 𝓛).typed a.0 _ are.0).0 are.1.0)

@@ -27,7 +27,7 @@ use denote.Triple.Clauses.{lasts}
 use Rattle.records.specs.declared.Cursor.{Cursor}
 use Rattle.reader.specs.declared.Reader.{Reader}
 use Rattle.reader.proofs.Answers.{answers}
-use Rattle.reader.proofs.Held.{erasedAt, bytesVal, bytesOwn, placeOwn, readerRow}
+use Rattle.reader.proofs.Held.{erased_at, bytes_val, bytes_own, place_own, reader_row}
 use Rattle.records.proofs.Cursor.TheLaws as C₁'
 use Rattle.reader.specs.contracts.Reader as T
 use Rattle.reader.proofs.Reader.TheLaws as T'
@@ -40,14 +40,14 @@ module _ {M : Type 1} {𝓤 : Ura M} (𝓛 : Logic 𝓤) (mem : Memory → SProp
 
 module _ {M : Type 1} {𝓤 : Ura M} (𝓛 : Logic 𝓤) (mem : Memory → SProp 𝓤) (run : Routine → Fun 𝓤) (κ : Lft) (q : Share) (s : Bor (List ℕ)) (c : Cursor) where
   abbrev at : List Val × (List Val × Unit {0})
-  at = (bytesVal s ∷ [], (C₁'.lowered c ∷ [], tt))
+  at = (bytes_val s ∷ [], (C₁'.lowered c ∷ [], tt))
 
-  abbrev pub to-placed : (Placed 𝓛 mem run).Ghost
-  to-placed = (((κ, tt), (q, tt), tt, (s, (c, tt)), at), tt)
+  abbrev pub to_placed : (Placed 𝓛 mem run).Ghost
+  to_placed = (((κ, tt), (q, tt), tt, (s, (c, tt)), at), tt)
 
-  pub places : (P : Fml) → ent 𝓤 (⋆ 𝓛 ((‵ (flft κ q) ⊛ ‵ ftrue) ∷ ‵ (fsep (bytesOwn κ s) (fsep (placeOwn c) P)) ∷ [])) (sep 𝓤 ((Placed 𝓛 mem run).pre to-placed) (sem 𝓛 P))
+  pub places : (P : Fml) → ent 𝓤 (⋆ 𝓛 ((‵ (flft κ q) ⊛ ‵ ftrue) ∷ ‵ (fsep (bytes_own κ s) (fsep (place_own c) P)) ∷ [])) (sep 𝓤 ((Placed 𝓛 mem run).pre to_placed) (sem 𝓛 P))
   places P =
-      qed 𝓛 ((‵ (flft κ q) ⊛ ‵ ftrue) ∷ ‵ (fsep (bytesOwn κ s) (fsep (placeOwn c) P)) ∷ []) ∵ move ! (1 ∷ []) $ fsplit ! $ move ! (1 ∷ []) $ fsplit ! $
+      qed 𝓛 ((‵ (flft κ q) ⊛ ‵ ftrue) ∷ ‵ (fsep (bytes_own κ s) (fsep (place_own c) P)) ∷ []) ∵ move ! (1 ∷ []) $ fsplit ! $ move ! (1 ∷ []) $ fsplit ! $
       -- [what the place owns; what the rest own; what the table owns; the token]
       nothing ! $ move ! (1 ∷ 0 ∷ []) $ fjoin ! $ move ! (2 ∷ 0 ∷ []) $ fjoin ! $ move ! (2 ∷ 0 ∷ []) $ join ! $ nothing ! $ move ! (1 ∷ 0 ∷ []) $ join ! $ frame ! $ done !
 
@@ -56,10 +56,10 @@ module _ {M : Type 1} {𝓤 : Ura M} {𝓛 : Logic 𝓤} {K : Type 0} {Γ : List
   open 𝓛 use {H}
 
   pub placing : K → FmC 𝓤 H 𝓛.laws C → (mem : Memory → SProp 𝓤) (run : Routine → Fun 𝓤) (κ : Lft) (q : Share) (s : MutBor (List ℕ)) (c : Cursor) → Triple 𝓤 (C placed-key.name) (Placed 𝓛 mem run)
-      → Opds K 𝓛 (raw ((Placed 𝓛 mem run).pre (to-placed 𝓛 mem run κ q s c)) ∷ Γ) E xs (bytesVal s ∷ C₁'.lowered c ∷ [])
-      → ((u : Val) (r : Reader) → r ≡ record { table = s; place = c } → Holds (has_ty (T'.mir erased) u) × WT u → Seq K 𝓛 (‵ ((readerRow (κ, tt)).own r (u ∷ [])) ∷ (‵ (flft κ q) ⊛ ‵ ftrue) ∷ Γ) (lands C Λ E to u rest after))
-      → Seq K 𝓛 (raw ((Placed 𝓛 mem run).pre (to-placed 𝓛 mem run κ q s c)) ∷ Γ) (runs C Λ E (seq (call placed-key.name xs to) rest) after)
+      → Opds K 𝓛 (raw ((Placed 𝓛 mem run).pre (to_placed 𝓛 mem run κ q s c)) ∷ Γ) E xs (bytes_val s ∷ C₁'.lowered c ∷ [])
+      → ((u : Val) (r : Reader) → r ≡ record { table = s; place = c } → Holds (has_ty (T'.mir erased) u) × WT u → Seq K 𝓛 (‵ ((reader_row (κ, tt)).own r (u ∷ [])) ∷ (‵ (flft κ q) ⊛ ‵ ftrue) ∷ Γ) (lands C Λ E to u rest after))
+      → Seq K 𝓛 (raw ((Placed 𝓛 mem run).pre (to_placed 𝓛 mem run κ q s c)) ∷ Γ) (runs C Λ E (seq (call placed-key.name xs to) rest) after)
   placing t fm mem run κ q s c known passed k =
-      calls_at t fm (Placed 𝓛 mem run) known (to-placed 𝓛 mem run κ q s c) passed (λ u.
-      answers t tt κ q (readerRow (κ, tt)) u (lasts placed.ended (κ, tt) (s, (c, tt))) (λ r. r ≡ record { table = s; place = c })
-      (λ r e is. k u r e ((LL.lawful (T.the_type (erasedAt κ)) (T'.the_laws (erasedAt κ)) 𝓛).typed r _ is).0))
+      calls_at t fm (Placed 𝓛 mem run) known (to_placed 𝓛 mem run κ q s c) passed (λ u.
+      answers t tt κ q (reader_row (κ, tt)) u (lasts placed.ended (κ, tt) (s, (c, tt))) (λ r. r ≡ record { table = s; place = c })
+      (λ r e is. k u r e ((LL.lawful (T.the_type (erased_at κ)) (T'.the_laws (erased_at κ)) 𝓛).typed r _ is).0))

@@ -2,8 +2,8 @@
 use mathlib.Core.Path.{◌≡◌, refl, ap}
 use Rattle.rules.specs.Records.{Step, End}
 use Rattle.rules.specs.declared.Answer.{Answer}
-use Rattle.fields.proofs.Told.{exact, untold, untold-told}
-use Rattle.records.specs.Said.{taskSaid, signalSaid, accessSaid, endSaid}
+use Rattle.fields.proofs.Told.{exact, untold, untold_told}
+use Rattle.records.specs.Said.{task_said, signal_said, access_said, end_said}
 use Rattle.records.specs.declared.Cursor.{Cursor}
 use Rattle.records.specs.declared.TaskStep.{TaskStep}
 use Rattle.records.specs.declared.SignalStep.{SignalStep}
@@ -16,37 +16,37 @@ unstep taken other refused (Step.taken a p) = taken a (record { at = p })
 unstep taken other refused Step.other = other
 unstep taken other refused (Step.refused t) = refused (untold t)
 
-untask-said : (r : TaskStep) → unstep TaskStep.Taken TaskStep.Other TaskStep.Refused (taskSaid r) ≡ r
-untask-said (TaskStep.Taken t c) = refl
-untask-said TaskStep.Other = refl
-untask-said (TaskStep.Refused a) = ap TaskStep.Refused (untold-told a)
+untask_said : (r : TaskStep) → unstep TaskStep.Taken TaskStep.Other TaskStep.Refused (task_said r) ≡ r
+untask_said (TaskStep.Taken t c) = refl
+untask_said TaskStep.Other = refl
+untask_said (TaskStep.Refused a) = ap TaskStep.Refused (untold_told a)
 
-unsignal-said : (r : SignalStep) → unstep SignalStep.Taken SignalStep.Other SignalStep.Refused (signalSaid r) ≡ r
-unsignal-said (SignalStep.Taken v c) = refl
-unsignal-said SignalStep.Other = refl
-unsignal-said (SignalStep.Refused a) = ap SignalStep.Refused (untold-told a)
+unsignal_said : (r : SignalStep) → unstep SignalStep.Taken SignalStep.Other SignalStep.Refused (signal_said r) ≡ r
+unsignal_said (SignalStep.Taken v c) = refl
+unsignal_said SignalStep.Other = refl
+unsignal_said (SignalStep.Refused a) = ap SignalStep.Refused (untold_told a)
 
-unaccess-said : (r : AccessStep) → unstep AccessStep.Taken AccessStep.Other AccessStep.Refused (accessSaid r) ≡ r
-unaccess-said (AccessStep.Taken x c) = refl
-unaccess-said AccessStep.Other = refl
-unaccess-said (AccessStep.Refused a) = ap AccessStep.Refused (untold-told a)
+unaccess_said : (r : AccessStep) → unstep AccessStep.Taken AccessStep.Other AccessStep.Refused (access_said r) ≡ r
+unaccess_said (AccessStep.Taken x c) = refl
+unaccess_said AccessStep.Other = refl
+unaccess_said (AccessStep.Refused a) = ap AccessStep.Refused (untold_told a)
 
 abbrev unend : End → Ending
 unend (End.at p) = Ending.At (record { at = p })
 unend (End.refused t) = Ending.Refused (untold t)
 
-unend-said : (e : Ending) → unend (endSaid e) ≡ e
-unend-said (Ending.At c) = refl
-unend-said (Ending.Refused a) = ap Ending.Refused (untold-told a)
+unend_said : (e : Ending) → unend (end_said e) ≡ e
+unend_said (Ending.At c) = refl
+unend_said (Ending.Refused a) = ap Ending.Refused (untold_told a)
 
-pub task-exact : (a b : TaskStep) → taskSaid a ≡ taskSaid b → a ≡ b
-task-exact = exact taskSaid (unstep TaskStep.Taken TaskStep.Other TaskStep.Refused) untask-said
+pub task_exact : (a b : TaskStep) → task_said a ≡ task_said b → a ≡ b
+task_exact = exact task_said (unstep TaskStep.Taken TaskStep.Other TaskStep.Refused) untask_said
 
-pub signal-exact : (a b : SignalStep) → signalSaid a ≡ signalSaid b → a ≡ b
-signal-exact = exact signalSaid (unstep SignalStep.Taken SignalStep.Other SignalStep.Refused) unsignal-said
+pub signal_exact : (a b : SignalStep) → signal_said a ≡ signal_said b → a ≡ b
+signal_exact = exact signal_said (unstep SignalStep.Taken SignalStep.Other SignalStep.Refused) unsignal_said
 
-pub access-exact : (a b : AccessStep) → accessSaid a ≡ accessSaid b → a ≡ b
-access-exact = exact accessSaid (unstep AccessStep.Taken AccessStep.Other AccessStep.Refused) unaccess-said
+pub access_exact : (a b : AccessStep) → access_said a ≡ access_said b → a ≡ b
+access_exact = exact access_said (unstep AccessStep.Taken AccessStep.Other AccessStep.Refused) unaccess_said
 
-pub end-exact : (a b : Ending) → endSaid a ≡ endSaid b → a ≡ b
-end-exact = exact endSaid unend unend-said
+pub end_exact : (a b : Ending) → end_said a ≡ end_said b → a ≡ b
+end_exact = exact end_said unend unend_said

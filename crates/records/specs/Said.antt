@@ -10,21 +10,21 @@ use Rattle.records.specs.declared.SignalStep.{SignalStep}
 use Rattle.records.specs.declared.AccessStep.{AccessStep}
 use Rattle.records.specs.declared.Ending.{Ending}
 
-abbrev pub taskSaid : TaskStep → Step Task
-taskSaid (TaskStep.Taken t c) = Step.taken t c.at
-taskSaid TaskStep.Other = Step.other
-taskSaid (TaskStep.Refused a) = Step.refused (told a)
+abbrev pub task_said : TaskStep → Step Task
+task_said (TaskStep.Taken t c) = Step.taken t c.at
+task_said TaskStep.Other = Step.other
+task_said (TaskStep.Refused a) = Step.refused (told a)
 
-abbrev pub signalSaid : SignalStep → Step ℕ
-signalSaid (SignalStep.Taken v c) = Step.taken v c.at
-signalSaid SignalStep.Other = Step.other
-signalSaid (SignalStep.Refused a) = Step.refused (told a)
+abbrev pub signal_said : SignalStep → Step ℕ
+signal_said (SignalStep.Taken v c) = Step.taken v c.at
+signal_said SignalStep.Other = Step.other
+signal_said (SignalStep.Refused a) = Step.refused (told a)
 
-abbrev pub accessSaid : AccessStep → Step Access
-accessSaid (AccessStep.Taken x c) = Step.taken x c.at
-accessSaid AccessStep.Other = Step.other
-accessSaid (AccessStep.Refused a) = Step.refused (told a)
+abbrev pub access_said : AccessStep → Step Access
+access_said (AccessStep.Taken x c) = Step.taken x c.at
+access_said AccessStep.Other = Step.other
+access_said (AccessStep.Refused a) = Step.refused (told a)
 
-abbrev pub endSaid : Ending → End
-endSaid (Ending.At c) = End.at c.at
-endSaid (Ending.Refused a) = End.refused (told a)
+abbrev pub end_said : Ending → End
+end_said (Ending.At c) = End.at c.at
+end_said (Ending.Refused a) = End.refused (told a)

@@ -2,7 +2,7 @@
 // Each method makes the paper's tests in the paper's order.
 ghost use Rattle.std.specs.Prelude.{◌≡◌, ◌+◌, ◌≤◌, length};
 ghost use Rattle.rules.specs.Table.{windowed};
-ghost use Rattle.rules.specs.Records.{taskIn, rightAt, accessIn, key_of};
+ghost use Rattle.rules.specs.Records.{task_in, right_at, access_in, key_of};
 ghost use Rattle.records.specs.Gives.{TaskGives, SignalGives, AccessGives, EndGives};
 
 use fields::{holds, marked, wide, word};
@@ -164,7 +164,7 @@ impl Cursor {
 // The fields of a task whose whole record stands at `at`.
 fn task_in(bytes: &[u8], at: usize) -> Task
     requires { at + 14 ≤ length bytes.now }
-    ensures { result ≡ taskIn bytes.now at }
+    ensures { result ≡ task_in bytes.now at }
 {
     Task {
         period: word(bytes, at + 2),
@@ -188,7 +188,7 @@ fn window_fits(task: Task) -> bool
 
 // The right that a mark gives, 0 where neither RD nor WR stands.
 fn right_at(bytes: &[u8], at: usize) -> u8
-    ensures { result ≡ rightAt bytes.now at }
+    ensures { result ≡ right_at bytes.now at }
 {
     if marked(bytes, at, RD) {
         return READ;
@@ -201,8 +201,8 @@ fn right_at(bytes: &[u8], at: usize) -> u8
 
 // The fields of an access whose whole record stands at `at`, with the right that its mark gives.
 fn access_in(bytes: &[u8], at: usize, right: u8) -> Access
-    requires { (at + 4 ≤ length bytes.now) × (right ≡ rightAt bytes.now at) }
-    ensures { result ≡ accessIn bytes.now at }
+    requires { (at + 4 ≤ length bytes.now) × (right ≡ right_at bytes.now at) }
+    ensures { result ≡ access_in bytes.now at }
 {
     Access {
         task: bytes[at + 2],

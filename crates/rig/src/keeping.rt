@@ -1,7 +1,7 @@
 // `table HEX`: these bytes are the table from now on.
 ghost use Rattle.std.specs.Prelude.{◌≡◌};
 ghost use Rattle.console.specs.Page.{page, put_all};
-ghost use Rattle.console.specs.Words.{afterWord};
+ghost use Rattle.console.specs.Words.{after_word};
 ghost use Rattle.console.specs.Digits.{bytes_of};
 
 use crate::bench::Bench;
@@ -11,7 +11,7 @@ use console::page::front;
 use console::words::after_word;
 
 pub(crate) fn keep(line: &[u8], kept: &mut [u8], out: &mut [u8], bench: Bench) -> Bench
-    ensures { page kept.new result.kept ≡ put_all (bytes_of (afterWord line.now)) (page kept.old 0) }
+    ensures { page kept.new result.kept ≡ put_all (bytes_of (after_word line.now)) (page kept.old 0) }
 {
     let used = decode(after_word(line), kept);
     let read = table::read_table(front(kept, used));

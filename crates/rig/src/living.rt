@@ -1,6 +1,6 @@
 // `live SIGNAL LEN`: the live list of a signal of the kept table, filled into a lent list of records.
 ghost use Rattle.std.specs.Prelude.{◌≤◌};
-ghost use Rattle.rules.specs.Table.{mostLent};
+ghost use Rattle.rules.specs.Table.{most_lent};
 
 use crate::bench::Bench;
 use crate::tell::{bad_line, end_of_answer, put_answer, put_part};
@@ -29,7 +29,7 @@ fn put_value(out: &mut [u8], at: usize, value: LiveValue) -> usize {
 }
 
 fn put_values(out: &mut [u8], at: usize, values: [LiveValue; MOST_LENT], len: usize) -> usize
-    requires { len ≤ mostLent }
+    requires { len ≤ most_lent }
 {
     let mut end = at;
     let mut k = 0;

@@ -1,8 +1,8 @@
 // What every answer is made of.
 ghost use Rattle.std.specs.Prelude.{◌≡◌};
 ghost use Rattle.rules.specs.Numbers.{told};
-ghost use Rattle.console.specs.Page.{page, putOne, put_all};
-ghost use Rattle.rig.specs.Tell.{lineFeed, numberAndPlace, badLine};
+ghost use Rattle.console.specs.Page.{page, put_one, put_all};
+ghost use Rattle.rig.specs.Tell.{line_feed, number_and_place, bad_line};
 
 use crate::bench::Bench;
 use console::page::{put, put_all, put_decimal};
@@ -15,7 +15,7 @@ const BAD_LINE: [u8; 9] = *b"bad line\n";
 
 // Number and place.
 pub(crate) fn put_answer(out: &mut [u8], at: usize, answer: Answer) -> usize
-    ensures { page out.new result ≡ put_all (numberAndPlace (told answer)) (page out.old at) }
+    ensures { page out.new result ≡ put_all (number_and_place (told answer)) (page out.old at) }
 {
     let number = put_decimal(out, at, answers::number(answer) as u64);
     let spaced = put(out, number, SPACE);
@@ -23,7 +23,7 @@ pub(crate) fn put_answer(out: &mut [u8], at: usize, answer: Answer) -> usize
 }
 
 pub(crate) fn end_of_answer(out: &mut [u8], at: usize) -> usize
-    ensures { page out.new result ≡ putOne lineFeed (page out.old at) }
+    ensures { page out.new result ≡ put_one line_feed (page out.old at) }
 {
     put(out, at, LINE_FEED)
 }
@@ -52,7 +52,7 @@ pub(crate) fn tell_with(out: &mut [u8], answer: Answer, more: u64, bench: Bench)
 }
 
 pub(crate) fn bad_line(out: &mut [u8], bench: Bench) -> Bench
-    ensures { page out.new result.waiting ≡ put_all badLine (page out.old bench.waiting) }
+    ensures { page out.new result.waiting ≡ put_all bad_line (page out.old bench.waiting) }
 {
     let mut after = bench;
     after.waiting = put_all(out, bench.waiting, &BAD_LINE);

@@ -1,15 +1,15 @@
 // A schedule written from its counts and elements, record by record at the front of a lent buffer.
 ghost use Rattle.std.specs.Prelude.{◌≡◌, List, ◌++◌, ℕ, ◌<◌, ◌≤◌, ◌*◌, ◌+◌, length, get_or, drop};
 ghost use Rattle.std.proofs.lemmas.List.Edits.{sets};
-ghost use Rattle.rules.specs.Table.{mostTasks, mostSignals, mostUses, longest};
+ghost use Rattle.rules.specs.Table.{most_tasks, most_signals, most_uses, longest};
 ghost use Rattle.rules.specs.Fields as fields;
-ghost use Rattle.rules.specs.Bytes.{bytes_of, scheduleLength};
+ghost use Rattle.rules.specs.Bytes.{bytes_of, schedule_length};
 ghost use Rattle.rules.specs.Reading.{table_of};
 ghost use Rattle.rules.specs.declared.Signals.{Signals};
 ghost use Rattle.form.specs.declared.sides.Side as sides;
-ghost use Rattle.form.specs.Records.{Ready, Short, bfBytes, useBytes, enBytes, markOf, usersBelow, instanceParts, sideParts, signalParts, parts_in};
+ghost use Rattle.form.specs.Records.{Ready, Short, bf_bytes, use_bytes, en_bytes, mark_of, users_below, instance_parts, side_parts, signal_parts, parts_in};
 ghost use Rattle.form.specs.Form.{walked};
-ghost use Rattle.schedule.specs.Writing.{Room, scheduleOf, bfPut, usePut, put, usesOf, usesBelow};
+ghost use Rattle.schedule.specs.Writing.{Room, schedule_of, bf_put, use_put, put, uses_of, uses_below};
 
 use form::{Side, instances_of, mark_of, users};
 use rules::{
@@ -28,7 +28,7 @@ pub fn write(
     out: &mut [u8],
 )
     requires { Ready tasks signals hyper × Room tasks signals grid.now (length out.old) }
-    ensures { (S : Signals) → S.count ≡ signals → out.new ≡ bytes_of (table_of tasks S grid.now) (scheduleOf (table_of tasks S grid.now) counts.now uses.now) ++ drop (scheduleLength (table_of tasks S grid.now)) out.old }
+    ensures { (S : Signals) → S.count ≡ signals → out.new ≡ bytes_of (table_of tasks S grid.now) (schedule_of (table_of tasks S grid.now) counts.now uses.now) ++ drop (schedule_length (table_of tasks S grid.now)) out.old }
 {
     let instances = instances_of(tasks, hyper);
     let used = put_signals(grid, &instances, tasks.count, signals, counts, uses, out);
@@ -36,7 +36,7 @@ pub fn write(
 }
 
 fn put_end(at: usize, out: &mut [u8])
-    requires { at + enBytes ≤ length out.old }
+    requires { at + en_bytes ≤ length out.old }
     ensures { out.new ≡ sets out.old at fields.EN }
 {
     out[at] = EN[0];
@@ -53,9 +53,9 @@ fn put_signals(
     uses: &[u8; MOST_USES],
     out: &mut [u8],
 ) -> usize
-    requires { (tasks ≤ mostTasks) × (signals ≤ mostSignals) × Short tasks instances.now × (usesBelow grid.now instances.now tasks signals ≤ mostUses) × (bfBytes * signals + useBytes * usesBelow grid.now instances.now tasks signals ≤ length out.old) }
+    requires { (tasks ≤ most_tasks) × (signals ≤ most_signals) × Short tasks instances.now × (uses_below grid.now instances.now tasks signals ≤ most_uses) × (bf_bytes * signals + use_bytes * uses_below grid.now instances.now tasks signals ≤ length out.old) }
     ensures is { record { out = out.exit.now; used = result } ≡ walked (put counts.now uses.now) (parts_in grid.now instances.now tasks signals) (record { out = out.entry.now; used = 0 }) }
-    ensures many { result ≡ usesBelow grid.now instances.now tasks signals }
+    ensures many { result ≡ uses_below grid.now instances.now tasks signals }
 {
     let mut used: usize = 0;
     let mut s: usize = 0;
@@ -77,9 +77,9 @@ fn put_signal(
     used: usize,
     out: &mut [u8],
 ) -> usize
-    requires { (tasks ≤ mostTasks) × (signal < mostSignals) × Short tasks instances.now × (used + usesOf grid.now instances.now tasks signal ≤ mostUses) × (bfBytes * (signal + 1) + useBytes * (used + usesOf grid.now instances.now tasks signal) ≤ length out.old) }
-    ensures is { record { out = out.exit.now; used = result } ≡ walked (put counts.now uses.now) (signalParts grid.now instances.now tasks signal) (record { out = out.entry.now; used = used }) }
-    ensures many { result ≡ used + usesOf grid.now instances.now tasks signal }
+    requires { (tasks ≤ most_tasks) × (signal < most_signals) × Short tasks instances.now × (used + uses_of grid.now instances.now tasks signal ≤ most_uses) × (bf_bytes * (signal + 1) + use_bytes * (used + uses_of grid.now instances.now tasks signal) ≤ length out.old) }
+    ensures is { record { out = out.exit.now; used = result } ≡ walked (put counts.now uses.now) (signal_parts grid.now instances.now tasks signal) (record { out = out.entry.now; used = used }) }
+    ensures many { result ≡ used + uses_of grid.now instances.now tasks signal }
 {
     put_bf(
         signal,
@@ -120,9 +120,9 @@ fn put_side(
     first: usize,
     out: &mut [u8],
 ) -> usize
-    requires { (tasks ≤ mostTasks) × (signal < mostSignals) × Short tasks instances.now × (first + usersBelow grid.now instances.now side signal tasks ≤ mostUses) × (bfBytes * (signal + 1) + useBytes * (first + usersBelow grid.now instances.now side signal tasks) ≤ length out.old) }
-    ensures is { (counts : List ℕ) → record { out = out.exit.now; used = result } ≡ walked (put counts uses.now) (sideParts grid.now instances.now tasks side signal) (record { out = out.entry.now; used = first }) }
-    ensures many { result ≡ first + usersBelow grid.now instances.now side signal tasks }
+    requires { (tasks ≤ most_tasks) × (signal < most_signals) × Short tasks instances.now × (first + users_below grid.now instances.now side signal tasks ≤ most_uses) × (bf_bytes * (signal + 1) + use_bytes * (first + users_below grid.now instances.now side signal tasks) ≤ length out.old) }
+    ensures is { (counts : List ℕ) → record { out = out.exit.now; used = result } ≡ walked (put counts uses.now) (side_parts grid.now instances.now tasks side signal) (record { out = out.entry.now; used = first }) }
+    ensures many { result ≡ first + users_below grid.now instances.now side signal tasks }
 {
     let mark = mark_of(side);
     let mut used = first;
@@ -145,8 +145,8 @@ fn put_instances(
     first: usize,
     out: &mut [u8],
 ) -> usize
-    requires { (task < mostTasks) × (signal < mostSignals) × (records ≤ longest) × (first + records ≤ mostUses) × (bfBytes * (signal + 1) + useBytes * (first + records) ≤ length out.old) }
-    ensures is { (counts : List ℕ) (side : sides.Side) → mark ≡ markOf side → record { out = out.exit.now; used = result } ≡ walked (put counts uses.now) (instanceParts side signal task records) (record { out = out.entry.now; used = first }) }
+    requires { (task < most_tasks) × (signal < most_signals) × (records ≤ longest) × (first + records ≤ most_uses) × (bf_bytes * (signal + 1) + use_bytes * (first + records) ≤ length out.old) }
+    ensures is { (counts : List ℕ) (side : sides.Side) → mark ≡ mark_of side → record { out = out.exit.now; used = result } ≡ walked (put counts uses.now) (instance_parts side signal task records) (record { out = out.entry.now; used = first }) }
     ensures many { result ≡ first + records }
 {
     let start = BF_BYTES * (signal + 1);
@@ -169,8 +169,8 @@ fn put_instances(
 }
 
 fn put_bf(signal: usize, count: u8, at: usize, out: &mut [u8])
-    requires { (signal < mostSignals) × (at + bfBytes ≤ length out.old) }
-    ensures { out.new ≡ bfPut out.old at signal count }
+    requires { (signal < most_signals) × (at + bf_bytes ≤ length out.old) }
+    ensures { out.new ≡ bf_put out.old at signal count }
 {
     out[at] = BF[0];
     out[at + 1] = BF[1];
@@ -187,8 +187,8 @@ fn put_use(
     at: usize,
     out: &mut [u8],
 )
-    requires { (signal < mostSignals) × (task < mostTasks) × (instance < longest) × (at + useBytes ≤ length out.old) }
-    ensures { out.new ≡ usePut out.old at mark signal task instance element }
+    requires { (signal < most_signals) × (task < most_tasks) × (instance < longest) × (at + use_bytes ≤ length out.old) }
+    ensures { out.new ≡ use_put out.old at mark signal task instance element }
 {
     out[at] = mark[0];
     out[at + 1] = mark[1];

@@ -1,8 +1,8 @@
 // The grid of the accesses, 16 rows of tasks by 32 columns of signals: 0 none, 1 read, 2 write, 3 both.
 ghost use Rattle.std.specs.Prelude.{◌≡◌, ◌≤◌};
-ghost use Rattle.rules.specs.Table.{mostTasks, mostSignals};
+ghost use Rattle.rules.specs.Table.{most_tasks, most_signals};
 ghost use Rattle.rules.specs.Records.{End};
-ghost use Rattle.rules.specs.Reading.{joinedOf, gridFrom};
+ghost use Rattle.rules.specs.Reading.{joined_of, grid_from};
 ghost use Rattle.sections.specs.Gives.{GridGives};
 
 use crate::{no_accesses, read_signals, read_tasks};
@@ -33,8 +33,8 @@ fn grid_from(
     signals: usize,
     from: Cursor,
 ) -> [[u8; MOST_SIGNALS]; MOST_TASKS]
-    requires { (tasks ≤ mostTasks) × (signals ≤ mostSignals) }
-    ensures { result ≡ gridFrom bytes.now tasks signals (End.at from.at) }
+    requires { (tasks ≤ most_tasks) × (signals ≤ most_signals) }
+    ensures { result ≡ grid_from bytes.now tasks signals (End.at from.at) }
 {
     let mut grid = [[0u8; MOST_SIGNALS]; MOST_TASKS];
     let mut accesses = no_accesses();
@@ -64,7 +64,7 @@ fn grid_from(
 
 // RD comes before WR, so that a right that joins another makes both.
 fn joined(right: u8, cell: u8) -> u8
-    ensures { result ≡ joinedOf right cell }
+    ensures { result ≡ joined_of right cell }
 {
     if cell == 0 { right } else { BOTH }
 }

@@ -2,11 +2,11 @@
 pub mod grid;
 
 ghost use Rattle.std.specs.Prelude.{◌≡◌, ◌≤◌};
-ghost use Rattle.rules.specs.Table.{mostTasks, mostSignals, mostAccesses};
+ghost use Rattle.rules.specs.Table.{most_tasks, most_signals, most_accesses};
 ghost use Rattle.rules.specs.Records.{End};
-ghost use Rattle.rules.specs.Reading.{noSignals, noAccesses, tasksIn, signalsIn, accessesIn, ended};
-ghost use Rattle.records.specs.Said.{endSaid};
-ghost use Rattle.sections.specs.Said.{tasksSaid, signalsSaid, accessesSaid};
+ghost use Rattle.rules.specs.Reading.{no_signals, no_accesses, tasks_in, signals_in, accesses_in, ended};
+ghost use Rattle.records.specs.Said.{end_said};
+ghost use Rattle.sections.specs.Said.{tasks_said, signals_said, accesses_said};
 
 use reader::{access_at, end_at, signal_at, task_at};
 use records::{AccessStep, Cursor, Ending, SignalStep, TaskStep};
@@ -33,8 +33,8 @@ pub struct AccessesRead {
 
 // All TK, from the first byte.
 pub fn read_tasks(bytes: &[u8]) -> TasksRead
-    ensures is { tasksSaid result ≡ tasksIn bytes.now }
-    ensures few { result.tasks.count ≤ mostTasks }
+    ensures is { tasks_said result ≡ tasks_in bytes.now }
+    ensures few { result.tasks.count ≤ most_tasks }
 {
     let none = Task {
         period: 0,
@@ -72,8 +72,8 @@ pub fn read_tasks(bytes: &[u8]) -> TasksRead
 
 // All SG, from where the tasks ended.
 pub fn read_signals(bytes: &[u8], from: Ending) -> SignalsRead
-    ensures is { signalsSaid result ≡ signalsIn bytes.now (endSaid from) }
-    ensures few { result.signals.count ≤ mostSignals }
+    ensures is { signals_said result ≡ signals_in bytes.now (end_said from) }
+    ensures few { result.signals.count ≤ most_signals }
 {
     match from {
         Ending::At(cursor) => signals_from(bytes, cursor),
@@ -85,8 +85,8 @@ pub fn read_signals(bytes: &[u8], from: Ending) -> SignalsRead
 }
 
 fn signals_from(bytes: &[u8], from: Cursor) -> SignalsRead
-    ensures is { signalsSaid result ≡ signalsIn bytes.now (End.at from.at) }
-    ensures few { result.signals.count ≤ mostSignals }
+    ensures is { signals_said result ≡ signals_in bytes.now (End.at from.at) }
+    ensures few { result.signals.count ≤ most_signals }
 {
     let mut signals = no_signals();
     let mut cursor = from;
@@ -115,7 +115,7 @@ fn signals_from(bytes: &[u8], from: Cursor) -> SignalsRead
 }
 
 fn no_signals() -> Signals
-    ensures { result ≡ noSignals }
+    ensures { result ≡ no_signals }
 {
     Signals {
         defaults: [0u32; MOST_SIGNALS],
@@ -125,8 +125,8 @@ fn no_signals() -> Signals
 
 // All RD and WR, from where the signals ended, with the numbers of tasks and signals that they may name.
 pub fn read_accesses(bytes: &[u8], tasks: usize, signals: usize, from: Ending) -> AccessesRead
-    ensures is { accessesSaid result ≡ accessesIn bytes.now tasks signals (endSaid from) }
-    ensures few { result.accesses.count ≤ mostAccesses }
+    ensures is { accesses_said result ≡ accesses_in bytes.now tasks signals (end_said from) }
+    ensures few { result.accesses.count ≤ most_accesses }
 {
     match from {
         Ending::At(cursor) => accesses_from(bytes, tasks, signals, cursor),
@@ -138,8 +138,8 @@ pub fn read_accesses(bytes: &[u8], tasks: usize, signals: usize, from: Ending) -
 }
 
 fn accesses_from(bytes: &[u8], tasks: usize, signals: usize, from: Cursor) -> AccessesRead
-    ensures is { accessesSaid result ≡ accessesIn bytes.now tasks signals (End.at from.at) }
-    ensures few { result.accesses.count ≤ mostAccesses }
+    ensures is { accesses_said result ≡ accesses_in bytes.now tasks signals (End.at from.at) }
+    ensures few { result.accesses.count ≤ most_accesses }
 {
     let mut accesses = no_accesses();
     let mut cursor = from;
@@ -171,7 +171,7 @@ fn accesses_from(bytes: &[u8], tasks: usize, signals: usize, from: Cursor) -> Ac
 
 // The access of right 0 stands before every access that a table can hold.
 pub(crate) fn no_accesses() -> Accesses
-    ensures { result ≡ noAccesses }
+    ensures { result ≡ no_accesses }
 {
     let none = Access {
         task: 0,
@@ -186,7 +186,7 @@ pub(crate) fn no_accesses() -> Accesses
 
 // EN, from where the accesses ended.
 pub fn read_end(bytes: &[u8], from: Ending) -> Ending
-    ensures { endSaid result ≡ ended bytes.now (endSaid from) }
+    ensures { end_said result ≡ ended bytes.now (end_said from) }
 {
     match from {
         Ending::At(cursor) => end_at(bytes, cursor),

@@ -10,19 +10,19 @@ use Rattle.windows.proofs.Windows.{branch}
 use Rattle.signals.specs.Pass.{pass}
 
 module _ {A : Type 0} (chosen : ℕ → Bool) (f : ℕ → A → A) (z : A) where
-  pub pass-none : z ≡ pass chosen f z 0
+  pub pass_none : z ≡ pass chosen f z 0
   unfolding pass
-  pass-none = refl
+  pass_none = refl
 
   -- after one turn of a loop
-  pub pass-turn : (n : ℕ) {v r : A} → v ≡ pass chosen f z n → ((chosen n ≡ true) × (r ≡ f n v)) ⊎ ((chosen n ≡ false) × (r ≡ v)) → r ≡ pass chosen f z (n + 1)
+  pub pass_turn : (n : ℕ) {v r : A} → v ≡ pass chosen f z n → ((chosen n ≡ true) × (r ≡ f n v)) ⊎ ((chosen n ≡ false) × (r ≡ v)) → r ≡ pass chosen f z (n + 1)
   unfolding pass when
-  pass-turn n e s = rw (add-one n) (⊎_elim (λ w. simp (w.0, ← e) w.1) (λ w. simp (w.0, ← e) w.1) s)
+  pass_turn n e s = rw (add-one n) (⊎_elim (λ w. simp (w.0, ← e) w.1) (λ w. simp (w.0, ← e) w.1) s)
 
-  pub pass-law : (Q : ℕ → A → Type 0) (n : ℕ) → Q 0 z → ((k : ℕ) (a : A) → k < n → Q k a → chosen k ≡ true → Q (suc k) (f k a))
+  pub pass_law : (Q : ℕ → A → Type 0) (n : ℕ) → Q 0 z → ((k : ℕ) (a : A) → k < n → Q k a → chosen k ≡ true → Q (suc k) (f k a))
       → ((k : ℕ) (a : A) → k < n → Q k a → chosen k ≡ false → Q (suc k) a) → Q n (pass chosen f z n)
   unfolding pass
-  pass-law Q n base step skip = go n (le_refl n)
+  pass_law Q n base step skip = go n (le_refl n)
     where
       go : (m : ℕ) → m ≤ n → Q m (pass chosen f z m)
       go zero l = base

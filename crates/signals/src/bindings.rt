@@ -1,9 +1,9 @@
 // The value of a signal that stands at a tick.
 ghost use Rattle.std.specs.Prelude.{◌≡◌, ◌<◌, ◌≤◌};
-ghost use Rattle.rules.specs.Table.{mostTasks, mostSignals};
-ghost use Rattle.rules.specs.Reading.{writesIn};
+ghost use Rattle.rules.specs.Table.{most_tasks, most_signals};
+ghost use Rattle.rules.specs.Reading.{writes_in};
 ghost use Rattle.windows.specs.Windowed.{Windowed, AllWindowed};
-ghost use Rattle.signals.specs.Forms.{laterOf, bindingOf};
+ghost use Rattle.signals.specs.Forms.{later_of, binding_of};
 
 use crate::Publication;
 use crate::rights::writes;
@@ -13,7 +13,7 @@ use windows::Found;
 // The later of what was found so far and the last publication of task number k at or before a tick.
 pub fn later(task: Task, k: usize, tick: u32, found: Publication) -> Publication
     requires { Windowed task }
-    ensures { result ≡ laterOf task k tick found }
+    ensures { result ≡ later_of task k tick found }
 {
     match windows::last_closed(task, tick) {
         Found::Nothing => found,
@@ -39,8 +39,8 @@ pub fn binding_at(
     signal: usize,
     tick: u32,
 ) -> Publication
-    requires { (tasks.count ≤ mostTasks) × (signal < mostSignals) × AllWindowed tasks }
-    ensures { result ≡ bindingOf tasks (writesIn grid.now signal) tick }
+    requires { (tasks.count ≤ most_tasks) × (signal < most_signals) × AllWindowed tasks }
+    ensures { result ≡ binding_of tasks (writes_in grid.now signal) tick }
 {
     let mut found = Publication {
         tick: 0,

@@ -1,20 +1,20 @@
 // Who writes and who reads a signal, by the grid: 1 for reading and 2 for writing, 3 for both.
 ghost use Rattle.std.specs.Prelude.{◌≡◌, ◌<◌};
-ghost use Rattle.rules.specs.Table.{mostTasks, mostSignals};
-ghost use Rattle.rules.specs.Reading.{writesIn, readsIn};
+ghost use Rattle.rules.specs.Table.{most_tasks, most_signals};
+ghost use Rattle.rules.specs.Reading.{writes_in, reads_in};
 
 use rules::{MOST_SIGNALS, MOST_TASKS, WRITE};
 
 pub fn writes(grid: &[[u8; MOST_SIGNALS]; MOST_TASKS], task: usize, signal: usize) -> bool
-    requires { (task < mostTasks) × (signal < mostSignals) }
-    ensures { result ≡ writesIn grid.now signal task }
+    requires { (task < most_tasks) × (signal < most_signals) }
+    ensures { result ≡ writes_in grid.now signal task }
 {
     grid[task][signal] / WRITE % 2 == 1
 }
 
 pub fn reads(grid: &[[u8; MOST_SIGNALS]; MOST_TASKS], task: usize, signal: usize) -> bool
-    requires { (task < mostTasks) × (signal < mostSignals) }
-    ensures { result ≡ readsIn grid.now signal task }
+    requires { (task < most_tasks) × (signal < most_signals) }
+    ensures { result ≡ reads_in grid.now signal task }
 {
     grid[task][signal] % 2 == 1
 }

@@ -1,9 +1,9 @@
 // The next publication of a signal, and until when a value of it is live.
 ghost use Rattle.std.specs.Prelude.{◌≡◌, ◌<◌, ◌≤◌};
-ghost use Rattle.rules.specs.Table.{mostTasks, mostSignals, longest};
-ghost use Rattle.rules.specs.Reading.{writesIn, readsIn};
+ghost use Rattle.rules.specs.Table.{most_tasks, most_signals, longest};
+ghost use Rattle.rules.specs.Reading.{writes_in, reads_in};
 ghost use Rattle.windows.specs.Windowed.{Windowed, AllWindowed};
-ghost use Rattle.signals.specs.Forms.{next_of, reachOf, untilOf};
+ghost use Rattle.signals.specs.Forms.{next_of, reach_of, until_of};
 
 use crate::rights::{reads, writes};
 use rules::{MOST_SIGNALS, MOST_TASKS, Task, Tasks};
@@ -17,8 +17,8 @@ pub fn next_publication(
     hyper: u32,
     tick: u32,
 ) -> u32
-    requires { (tasks.count ≤ mostTasks) × (signal < mostSignals) × AllWindowed tasks × (tick ≤ longest) }
-    ensures { result ≡ next_of tasks (writesIn grid.now signal) hyper tick }
+    requires { (tasks.count ≤ most_tasks) × (signal < most_signals) × AllWindowed tasks × (tick ≤ longest) }
+    ensures { result ≡ next_of tasks (writes_in grid.now signal) hyper tick }
 {
     let mut next = hyper;
     let mut k: usize = 0;
@@ -34,7 +34,7 @@ pub fn next_publication(
 // The later of what was reached so far and the closing of the task's last instance that opens at or after one tick and before another.
 pub fn reach(task: Task, from: u32, before: u32, reached: u32) -> u32
     requires { Windowed task × (before ≤ longest) }
-    ensures { result ≡ reachOf task from before reached }
+    ensures { result ≡ reach_of task from before reached }
 {
     match windows::last_opened(task, before) {
         Found::Nothing => reached,
@@ -56,8 +56,8 @@ pub fn until(
     hyper: u32,
     published: u32,
 ) -> u32
-    requires { (tasks.count ≤ mostTasks) × (signal < mostSignals) × AllWindowed tasks × (published ≤ longest) × (hyper ≤ longest) }
-    ensures { result ≡ untilOf tasks (writesIn grid.now signal) (readsIn grid.now signal) hyper published }
+    requires { (tasks.count ≤ most_tasks) × (signal < most_signals) × AllWindowed tasks × (published ≤ longest) × (hyper ≤ longest) }
+    ensures { result ≡ until_of tasks (writes_in grid.now signal) (reads_in grid.now signal) hyper published }
 {
     let next = next_publication(tasks, grid, signal, hyper, published);
     let mut reached = next;

@@ -11,48 +11,48 @@ use lib.ListN.{length, get_or, set, length-set, get_or-eq_default}
 use lib.Seq.{get_or-set_same, get_or-set_other, set_out}
 use borrow.Author.Tests.{ltb-true, ltb-false, lt-ltb, le-ltb, lt-leb, le-leb, eq-eqb, ne_eqb, eqb-true, eqb-false}
 use Rattle.rules.specs.Words.{when, highest, maybe, up_to}
-use Rattle.rules.specs.Windows.{Table, opens, closes, instance, isOpen, hyper, instances}
+use Rattle.rules.specs.Windows.{Table, opens, closes, instance, is_open, hyper, instances}
 use Rattle.rules.specs.Values.{carried, by, publisher, opens_at}
-use Rattle.rules.specs.Table.{words, Fits, mostTasks, mostSignals, mostUses}
-use Rattle.rules.specs.Meaning.{Content, word, defaultOf}
+use Rattle.rules.specs.Table.{words, Fits, most_tasks, most_signals, most_uses}
+use Rattle.rules.specs.Meaning.{Content, word, default_of}
 use Rattle.rules.specs.Stores.{Memory, Place, in_words, nowhere, get, put, move, word_in, fill}
 use Rattle.rules.specs.Machine.{State, Layout}
 use Rattle.rules.specs.Machine as rules
 use Rattle.theory.specs.Places.{Sized}
 use Rattle.theory.proofs.Tests.{split, and_is}
-use Rattle.theory.proofs.Hyper.{period-pos}
-use Rattle.theory.proofs.Time.{instance-lt}
-use Rattle.theory.proofs.Joins.{open-mod, opens-mod, closes-mod}
-use Rattle.theory.proofs.Loops.{loop-keeps, loop-turn, loop-same, loop-trim, loop-idle, loop-once, loop-seen}
-use Rattle.theory.proofs.Memory.{put-sized}
+use Rattle.theory.proofs.Hyper.{period_pos}
+use Rattle.theory.proofs.Time.{instance_lt}
+use Rattle.theory.proofs.Joins.{open_mod, opens_mod, closes_mod}
+use Rattle.theory.proofs.Loops.{loop_keeps, loop_turn, loop_same, loop_trim, loop_idle, loop_once, loop_seen}
+use Rattle.theory.proofs.Memory.{put_sized}
 use Rattle.state.specs.Parts.{at, cell, periods, starts, ends, counts, writes, uses, held, tick, numbers}
 use Rattle.state.specs.Parts as parts
-use Rattle.state.specs.Rows.{phaseOf, instanceIf, openingOf, closingOf, insideOf, load, save, lacks, useOf, publishOne, fillOne, carryOne, releaseOne, atInstance, published, openings, copies, released}
+use Rattle.state.specs.Rows.{phase_of, instance_if, opening_of, closing_of, inside_of, load, save, lacks, use_of, publish_one, fill_one, carry_one, release_one, at_instance, published, openings, copies, released}
 use Rattle.state.specs.declared.Instance.{Instance}
-use Rattle.state.proofs.Frames.{Off, set-off, published-off}
+use Rattle.state.proofs.Frames.{Off, set_off, published_off}
 use Rattle.simulation.specs.Simulates.{position_of, permits, Knows}
 
 -- ---- instances
 
 -- the instance, where a test holds
-abbrev foundIf : Bool → ℕ → Instance
-foundIf test i = cond test (Instance.At i) Instance.Nothing
+abbrev found_if : Bool → ℕ → Instance
+found_if test i = cond test (Instance.At i) Instance.Nothing
 
 -- a task without instances has none
-none-of-none : (test : Bool) (period t : ℕ) → instanceIf test period 0 t ≡ Instance.Nothing
-unfolding instanceIf when
-none-of-none test period t = split test (λ e. rw e (split (eqb period 0) (λ q. rw q) (λ q. rw (q, le-leb 0 (t / period) (omega arith))))) (λ e. rw e)
+none_of_none : (test : Bool) (period t : ℕ) → instance_if test period 0 t ≡ Instance.Nothing
+unfolding instance_if when
+none_of_none test period t = split test (λ e. rw e (split (eqb period 0) (λ q. rw q) (λ q. rw (q, le-leb 0 (t / period) (omega arith))))) (λ e. rw e)
 
 module _ (tab : Table) (F : Fits tab) (k t : ℕ) (h : k < tab.tasks) (l : t < hyper tab) where
-  found-if : (test : Bool) → instanceIf test (tab.period k) (instances tab k) t ≡ foundIf test (instance tab k t)
-  unfolding instanceIf when
-  found-if test =
-      let p = ne_eqb (tab.period k) 0 (λ z. omega (arith, period-pos tab F k h)) in
-      let b = lt-leb (instances tab k) (instance tab k t) (instance-lt tab F k t h l) in
+  found_if_lem : (test : Bool) → instance_if test (tab.period k) (instances tab k) t ≡ found_if test (instance tab k t)
+  unfolding instance_if when
+  found_if_lem test =
+      let p = ne_eqb (tab.period k) 0 (λ z. omega (arith, period_pos tab F k h)) in
+      let b = lt-leb (instances tab k) (instance tab k t) (instance_lt tab F k t h l) in
       split test (λ e. rw (e, p, b)) (λ e. rw e)
 
-  phase-is : phaseOf (tab.period k) t ≡ t % tab.period k
-  phase-is = rw (ne_eqb (tab.period k) 0 (λ z. omega (arith, period-pos tab F k h)))
+  phase_is : phase_of (tab.period k) t ≡ t % tab.period k
+  phase_is = rw (ne_eqb (tab.period k) 0 (λ z. omega (arith, period_pos tab F k h)))
 
 module _ (tab : Table) (L : Layout) (F : Fits tab) (n : List ℕ) (K : Knows tab L n) (t : ℕ) (now : at n tick ≡ t) (l : t < hyper tab) where
   -- task k opens at the tick, and closes at the next one
@@ -62,23 +62,23 @@ module _ (tab : Table) (L : Layout) (F : Fits tab) (n : List ℕ) (K : Knows tab
   abbrev ending : ℕ → Bool
   ending k = eqb (closes tab k (instance tab k t)) (suc t)
 
-  opening-is : (k : ℕ) → k < tab.tasks → openingOf n k ≡ foundIf (starting k) (instance tab k t)
-  unfolding openingOf
-  opening-is k h =
-      rw (K.periods-are k h, K.starts-are k h, K.counts-are k h, now)
-      (found-if tab F k t h l _ ∙ ap (λ b. foundIf b (instance tab k t)) (ap (λ p. eqb p (tab.start k)) (phase-is tab F k t h l) ∙ sym (opens-mod tab k t)))
+  opening_is : (k : ℕ) → k < tab.tasks → opening_of n k ≡ found_if (starting k) (instance tab k t)
+  unfolding opening_of
+  opening_is k h =
+      rw (K.periods_are k h, K.starts_are k h, K.counts_are k h, now)
+      (found_if_lem tab F k t h l _ ∙ ap (λ b. found_if b (instance tab k t)) (ap (λ p. eqb p (tab.start k)) (phase_is tab F k t h l) ∙ sym (opens_mod tab k t)))
 
-  closing-is : (k : ℕ) → k < tab.tasks → closingOf n k ≡ foundIf (ending k) (instance tab k t)
-  unfolding closingOf
-  closing-is k h =
-      rw (K.periods-are k h, K.ends-are k h, K.counts-are k h, now)
-      (found-if tab F k t h l _ ∙ ap (λ b. foundIf b (instance tab k t)) (ap (λ p. eqb p (tab.end k)) (ap (λ p. p + 1) (phase-is tab F k t h l) ∙ add-one (t % tab.period k)) ∙ sym (closes-mod tab k t)))
+  closing_is : (k : ℕ) → k < tab.tasks → closing_of n k ≡ found_if (ending k) (instance tab k t)
+  unfolding closing_of
+  closing_is k h =
+      rw (K.periods_are k h, K.ends_are k h, K.counts_are k h, now)
+      (found_if_lem tab F k t h l _ ∙ ap (λ b. found_if b (instance tab k t)) (ap (λ p. eqb p (tab.end k)) (ap (λ p. p + 1) (phase_is tab F k t h l) ∙ add-one (t % tab.period k)) ∙ sym (closes_mod tab k t)))
 
-  pub inside_is : (k : ℕ) → k < tab.tasks → insideOf n k ≡ foundIf (isOpen tab k (instance tab k t) t) (instance tab k t)
-  unfolding insideOf
+  pub inside_is : (k : ℕ) → k < tab.tasks → inside_of n k ≡ found_if (is_open tab k (instance tab k t) t) (instance tab k t)
+  unfolding inside_of
   inside_is k h =
-      rw (K.periods-are k h, K.starts-are k h, K.ends-are k h, K.counts-are k h, now)
-      (found-if tab F k t h l _ ∙ ap (λ b. foundIf b (instance tab k t)) (ap (λ p. leb (tab.start k) p && ltb p (tab.end k)) (phase-is tab F k t h l) ∙ sym (open-mod tab k t)))
+      rw (K.periods_are k h, K.starts_are k h, K.ends_are k h, K.counts_are k h, now)
+      (found_if_lem tab F k t h l _ ∙ ap (λ b. found_if b (instance tab k t)) (ap (λ p. leb (tab.start k) p && ltb p (tab.end k)) (phase_is tab F k t h l) ∙ sym (open_mod tab k t)))
 
 -- ---- words of the store
 
@@ -88,45 +88,45 @@ load_is m (in_words a) e =
     split (ltb a words) (λ q. rw q) (λ q. let h : length m.block ≤ a = omega (arith, ltb-false a words q) in rw (q, get_or-eq_default m.block 0 h))
 load_is m nowhere e = refl
 
-pub save-is : (m : Memory) (p : Place) (c : Content) → length m.block ≡ words → save m.block (position_of p) (word_in c) ≡ (put m p c).block
+pub save_is : (m : Memory) (p : Place) (c : Content) → length m.block ≡ words → save m.block (position_of p) (word_in c) ≡ (put m p c).block
 unfolding save put
-save-is m (in_words a) c e = split (ltb a words) (λ q. rw q) (λ q. rw (q, set_out m.block a (word_in c) (omega (arith, ltb-false a words q))))
-save-is m nowhere c e = refl
+save_is m (in_words a) c e = split (ltb a words) (λ q. rw q) (λ q. rw (q, set_out m.block a (word_in c) (omega (arith, ltb-false a words q))))
+save_is m nowhere c e = refl
 
 -- a word copied onto itself
-save-same : (b : List ℕ) → save b 0 (load b 0) ≡ b
+save_same : (b : List ℕ) → save b 0 (load b 0) ≡ b
 unfolding load save
-save-same [] = refl
-save-same (x ∷ b) = refl
+save_same [] = refl
+save_same (x ∷ b) = refl
 
 -- the last turn that stores a value decides
-last-acts : (p : ℕ → Bool) (f : ℕ → ℕ) (n x : ℕ) → up_to n (λ k y. cond (p k) (f k) y) x ≡ maybe (highest p n) x f
+last_acts : (p : ℕ → Bool) (f : ℕ → ℕ) (n x : ℕ) → up_to n (λ k y. cond (p k) (f k) y) x ≡ maybe (highest p n) x f
 unfolding up_to highest
-last-acts p f zero x = refl
-last-acts p f (suc n) x = split (p n) (λ e. rw e) (λ e. rw e (last-acts p f n x))
+last_acts p f zero x = refl
+last_acts p f (suc n) x = split (p n) (λ e. rw e) (λ e. rw e (last_acts p f n x))
 
-maybe-position : (o : Option ℕ) (p : Place) (f : ℕ → Place) → maybe o (position_of p) (λ k. position_of (f k)) ≡ position_of (maybe o p f)
-maybe-position none p f = refl
-maybe-position (some k) p f = refl
+maybe_position : (o : Option ℕ) (p : Place) (f : ℕ → Place) → maybe o (position_of p) (λ k. position_of (f k)) ≡ position_of (maybe o p f)
+maybe_position none p f = refl
+maybe_position (some k) p f = refl
 
 module _ (tab : Table) (L : Layout) (F : Fits tab) (n : List ℕ) (K : Knows tab L n) where
   -- which accesses the state has
   permitted : (allowed : ℕ → ℕ → Bool) (k s : ℕ) → k < tab.tasks → s < tab.signals → allowed s k ≡ true → permits tab allowed k s ≡ true
   permitted allowed k s h r e = and_is (and_is (lt-ltb k tab.tasks h) (lt-ltb s tab.signals r)) e
 
-  writes-it : (k s : ℕ) → k < tab.tasks → s < tab.signals → tab.writes s k ≡ true → lacks n writes k s ≡ false
-  writes-it k s h r e = K.writes_are.exact k s (omega (arith, F.few-tasks)) (omega (arith, F.few-signals)) ∙ ap not (permitted tab.writes k s h r e)
+  writes_it : (k s : ℕ) → k < tab.tasks → s < tab.signals → tab.writes s k ≡ true → lacks n writes k s ≡ false
+  writes_it k s h r e = K.writes_are.exact k s (omega (arith, F.few_tasks)) (omega (arith, F.few_signals)) ∙ ap not (permitted tab.writes k s h r e)
 
-  idle : (k s : ℕ) → k < mostTasks → s < mostSignals → permits tab tab.writes k s ≡ false → lacks n writes k s ≡ true
+  idle : (k s : ℕ) → k < most_tasks → s < most_signals → permits tab tab.writes k s ≡ false → lacks n writes k s ≡ true
   idle k s h r e = K.writes_are.exact k s h r ∙ ap not e
 
-  unwritten : (k s : ℕ) → k < mostTasks → s < mostSignals → tab.writes s k ≡ false → lacks n writes k s ≡ true
+  unwritten : (k s : ℕ) → k < most_tasks → s < most_signals → tab.writes s k ≡ false → lacks n writes k s ≡ true
   unwritten k s h r e = idle k s h r (rw e (split (ltb k tab.tasks && ltb s tab.signals) (λ q. rw q) (λ q. rw q)))
 
-  no-signal : (k s : ℕ) → k < mostTasks → s < mostSignals → tab.signals ≤ s → lacks n writes k s ≡ true
-  no-signal k s h r e = idle k s h r (rw (le-ltb s tab.signals e) (split (ltb k tab.tasks) (λ q. rw q) (λ q. rw q)))
+  no_signal : (k s : ℕ) → k < most_tasks → s < most_signals → tab.signals ≤ s → lacks n writes k s ≡ true
+  no_signal k s h r e = idle k s h r (rw (le-ltb s tab.signals e) (split (ltb k tab.tasks) (λ q. rw q) (λ q. rw q)))
 
-  written : (s k i : ℕ) → s < tab.signals → k < tab.tasks → tab.writes s k ≡ true → i < instances tab k → useOf n writes k i s ≡ position_of (L.place (by s k i))
+  written : (s k i : ℕ) → s < tab.signals → k < tab.tasks → tab.writes s k ≡ true → i < instances tab k → use_of n writes k i s ≡ position_of (L.place (by s k i))
   written s k i r h w l = K.writes_are.stands s k i (permitted tab.writes k s h r w) l
 
   module _ (t : ℕ) (now : at n tick ≡ t) (l : t < hyper tab) where
@@ -136,209 +136,209 @@ module _ (tab : Table) (L : Layout) (F : Fits tab) (n : List ℕ) (K : Knows tab
     abbrev ended : ℕ → Bool
     ended k = eqb (closes tab k (instance tab k t)) (suc t)
 
-    abbrev at-now : ℕ → ℕ → Place
-    at-now s k = L.place (by s k (instance tab k t))
+    abbrev at_now : ℕ → ℕ → Place
+    at_now s k = L.place (by s k (instance tab k t))
 
     -- ---- openings
 
     module _ (d : List ℕ) (D : (s : ℕ) → s < tab.signals → get_or d s 0 ≡ tab.default s) where
       -- task k sets its place of signal s to the default, if it opens
       abbrev sets : ℕ → ℕ → Memory → Memory
-      sets k s m = cond (opens_at tab t s k) (put m (at-now s k) (defaultOf tab s)) m
+      sets k s m = cond (opens_at tab t s k) (put m (at_now s k) (default_of tab s)) m
 
-      sets-sized : (k s : ℕ) (m : Memory) → Sized tab m → Sized tab (sets k s m)
-      sets-sized k s m z = split (opens_at tab t s k) (λ e. rw e (put-sized tab m (at-now s k) (defaultOf tab s) z)) (λ e. rw e z)
+      sets_sized : (k s : ℕ) (m : Memory) → Sized tab m → Sized tab (sets k s m)
+      sets_sized k s m z = split (opens_at tab t s k) (λ e. rw e (put_sized tab m (at_now s k) (default_of tab s) z)) (λ e. rw e z)
 
-      open-one : (s k : ℕ) → s < tab.signals → k < tab.tasks → begun k ≡ true → (m : Memory) → Sized tab m → fillOne n d k (instance tab k t) s m.block ≡ (sets k s m).block
-      unfolding fillOne opens_at defaultOf
-      open-one s k a h o m z =
+      open_one : (s k : ℕ) → s < tab.signals → k < tab.tasks → begun k ≡ true → (m : Memory) → Sized tab m → fill_one n d k (instance tab k t) s m.block ≡ (sets k s m).block
+      unfolding fill_one opens_at default_of
+      open_one s k a h o m z =
           split (tab.writes s k)
-          (λ w. rw (writes-it k s h a w, written s k (instance tab k t) a h w (instance-lt tab F k t h l), D s a, w, o) (save-is m (at-now s k) (word (tab.default s)) z))
-          (λ w. rw (unwritten k s (omega (arith, F.few-tasks)) (omega (arith, F.few-signals)) w, w))
+          (λ w. rw (writes_it k s h a w, written s k (instance tab k t) a h w (instance_lt tab F k t h l), D s a, w, o) (save_is m (at_now s k) (word (tab.default s)) z))
+          (λ w. rw (unwritten k s (omega (arith, F.few_tasks)) (omega (arith, F.few_signals)) w, w))
 
       -- a task that opens sets the places of all its signals
       open_row : (k : ℕ) → k < tab.tasks → (m : Memory) → Sized tab m
-          → atInstance (fillOne n d k) (foundIf (begun k) (instance tab k t)) m.block ≡ (up_to tab.signals (sets k) m).block
-      unfolding fillOne opens_at
+          → at_instance (fill_one n d k) (found_if (begun k) (instance tab k t)) m.block ≡ (up_to tab.signals (sets k) m).block
+      unfolding fill_one opens_at
       open_row k h m z =
           split (begun k)
           (λ o. rw o (
-          loop-trim tab.signals mostSignals (fillOne n d k (instance tab k t)) m.block F.few-signals (λ s x a b. rw (no-signal k s (omega (arith, F.few-tasks)) b a))
-          ∙ sym (loop-seen (Sized tab) (λ x. x.block) (fillOne n d k (instance tab k t)) tab.signals (sets k) m (λ s x a y. (sets-sized k s x y, sym (open-one s k a h o x y))) z)))
-          (λ o. rw o (ap (λ (x : Memory). x.block) (sym (loop-idle tab.signals (sets k) m (λ s x a. rw o (split (tab.writes s k) (λ w. rw w) (λ w. rw w)))))))
+          loop_trim tab.signals most_signals (fill_one n d k (instance tab k t)) m.block F.few_signals (λ s x a b. rw (no_signal k s (omega (arith, F.few_tasks)) b a))
+          ∙ sym (loop_seen (Sized tab) (λ x. x.block) (fill_one n d k (instance tab k t)) tab.signals (sets k) m (λ s x a y. (sets_sized k s x y, sym (open_one s k a h o x y))) z)))
+          (λ o. rw o (ap (λ (x : Memory). x.block) (sym (loop_idle tab.signals (sets k) m (λ s x a. rw o (split (tab.writes s k) (λ w. rw w) (λ w. rw w)))))))
 
-      pub opened-is : (m : Memory) → Sized tab m → openings n d m.block ≡ (rules.openings tab L t m).block
-      unfolding openings openingOf fill rules.openings
-      opened-is m z =
-          loop-trim tab.tasks mostTasks turn m.block F.few-tasks (λ k x a b. rw (K.no-task k a b, none-of-none (eqb (phaseOf (at n (periods + k)) (at n tick)) (at n (starts + k))) (at n (periods + k)) (at n tick)))
-          ∙ sym (loop-seen (Sized tab) (λ x. x.block) turn tab.tasks (λ k. up_to tab.signals (sets k)) m
-          (λ k x h y. (loop-keeps (Sized tab) tab.signals (sets k) x (λ s w a. sets-sized k s w) y, sym (rw (opening-is tab L F n K t now l k h) (open_row k h x y)))) z)
+      pub opened_is : (m : Memory) → Sized tab m → openings n d m.block ≡ (rules.openings tab L t m).block
+      unfolding openings opening_of fill rules.openings
+      opened_is m z =
+          loop_trim tab.tasks most_tasks turn m.block F.few_tasks (λ k x a b. rw (K.no_task k a b, none_of_none (eqb (phase_of (at n (periods + k)) (at n tick)) (at n (starts + k))) (at n (periods + k)) (at n tick)))
+          ∙ sym (loop_seen (Sized tab) (λ x. x.block) turn tab.tasks (λ k. up_to tab.signals (sets k)) m
+          (λ k x h y. (loop_keeps (Sized tab) tab.signals (sets k) x (λ s w a. sets_sized k s w) y, sym (rw (opening_is tab L F n K t now l k h) (open_row k h x y)))) z)
         where
           turn : ℕ → List ℕ → List ℕ
-          turn k = atInstance (fillOne n d k) (openingOf n k)
+          turn k = at_instance (fill_one n d k) (opening_of n k)
 
     -- ---- closings
 
     -- the same as n but for what is held
     pub record Like (a : List ℕ) : Type 0 where
       pub long : length a ≡ length n
-      pub off : (k : ℕ) → Off held mostSignals k → at a k ≡ at n k
+      pub off : (k : ℕ) → Off held most_signals k → at a k ≡ at n k
 
-    like-cell : (a : List ℕ) → Like a → (k r : ℕ) → k < mostTasks → r < mostSignals → at a (cell writes k r) ≡ at n (cell writes k r)
-    like-cell a q k r h b = q.off (cell writes k r) (λ s c e. omega arith)
+    like_cell : (a : List ℕ) → Like a → (k r : ℕ) → k < most_tasks → r < most_signals → at a (cell writes k r) ≡ at n (cell writes k r)
+    like_cell a q k r h b = q.off (cell writes k r) (λ s c e. omega arith)
 
-    like-use : (a : List ℕ) → Like a → (k i r : ℕ) → k < mostTasks → r < mostSignals → useOf a writes k i r ≡ useOf n writes k i r
-    unfolding useOf
-    like-use a q k i r h b =
+    like_use : (a : List ℕ) → Like a → (k i r : ℕ) → k < most_tasks → r < most_signals → use_of a writes k i r ≡ use_of n writes k i r
+    unfolding use_of
+    like_use a q k i r h b =
         let j = at n (cell writes k r) + i in
-        rw (like-cell a q k r h b)
-        (split (ltb j mostUses) (λ e. let c = ltb-true j mostUses e in rw (e, q.off (uses + j) (λ s z y. omega arith))) (λ e. rw e))
+        rw (like_cell a q k r h b)
+        (split (ltb j most_uses) (λ e. let c = ltb-true j most_uses e in rw (e, q.off (uses + j) (λ s z y. omega arith))) (λ e. rw e))
 
-    like-closing : (a : List ℕ) → Like a → (k : ℕ) → k < mostTasks → closingOf a k ≡ closingOf n k
-    unfolding closingOf
-    like-closing a q k h =
+    like_closing : (a : List ℕ) → Like a → (k : ℕ) → k < most_tasks → closing_of a k ≡ closing_of n k
+    unfolding closing_of
+    like_closing a q k h =
         rw (q.off tick (λ s c e. omega arith), q.off (periods + k) (λ s c e. omega arith), q.off (counts + k) (λ s c e. omega arith), q.off (ends + k) (λ s c e. omega arith))
 
-    publish-like : (k i r : ℕ) → r < mostSignals → (a : List ℕ) → Like a → Like (publishOne k i r a)
-    unfolding publishOne
-    publish-like k i r b a q =
+    publish_like : (k i r : ℕ) → r < most_signals → (a : List ℕ) → Like a → Like (publish_one k i r a)
+    unfolding publish_one
+    publish_like k i r b a q =
         split (lacks a writes k r)
         (λ e. rw e q)
         (λ e. rw e (record {
-          long = length-set a (held + r) (useOf a writes k i r) ∙ q.long;
-          off = λ x o. set-off a (held + r) x (useOf a writes k i r) (o r b) ∙ q.off x o;
+          long = length-set a (held + r) (use_of a writes k i r) ∙ q.long;
+          off = λ x o. set_off a (held + r) x (use_of a writes k i r) (o r b) ∙ q.off x o;
         }))
 
-    row-like : (k : ℕ) (o : Instance) (a : List ℕ) → Like a → Like (atInstance (publishOne k) o a)
-    row-like k (Instance.At i) a q = loop-keeps Like mostSignals (publishOne k i) a (λ r x b. publish-like k i r b x) q
-    row-like k Instance.Nothing a q = q
+    row_like : (k : ℕ) (o : Instance) (a : List ℕ) → Like a → Like (at_instance (publish_one k) o a)
+    row_like k (Instance.At i) a q = loop_keeps Like most_signals (publish_one k i) a (λ r x b. publish_like k i r b x) q
+    row_like k Instance.Nothing a q = q
 
     module _ (full : length n ≡ numbers) where
       -- what is seen of signal s after a task's turn for signal r
-      publish-one : (s k r : ℕ) → s < tab.signals → k < tab.tasks → r < mostSignals → (a : List ℕ) → Like a
-          → at (publishOne k (instance tab k t) r a) (held + s) ≡ cond (eqb r s && tab.writes s k) (position_of (at-now s k)) (at a (held + s))
-      unfolding publishOne
-      publish-one s k r a h b x q =
+      publish_one_lem : (s k r : ℕ) → s < tab.signals → k < tab.tasks → r < most_signals → (a : List ℕ) → Like a
+          → at (publish_one k (instance tab k t) r a) (held + s) ≡ cond (eqb r s && tab.writes s k) (position_of (at_now s k)) (at a (held + s))
+      unfolding publish_one
+      publish_one_lem s k r a h b x q =
           let i = instance tab k t in
-          let few : k < mostTasks = omega (arith, F.few-tasks) in
-          let one : s < mostSignals = omega (arith, F.few-signals) in
-          rw (like-cell x q k r few b, like-use x q k i r few b)
+          let few : k < most_tasks = omega (arith, F.few_tasks) in
+          let one : s < most_signals = omega (arith, F.few_signals) in
+          rw (like_cell x q k r few b, like_use x q k i r few b)
           (split (eqb r s)
           (λ y. let z = eqb-true r s y in rw (z, eq-eqb s s refl) (split (tab.writes s k)
-          (λ w. rw (writes-it k s h a w, written s k i a h w (instance-lt tab F k t h l), w) (get_or-set_same x (held + s) (position_of (at-now s k)) 0 (omega (arith, q.long))))
+          (λ w. rw (writes_it k s h a w, written s k i a h w (instance_lt tab F k t h l), w) (get_or-set_same x (held + s) (position_of (at_now s k)) 0 (omega (arith, q.long))))
           (λ w. rw (unwritten k s few one w, w))))
           (λ y. rw y (split (lacks n writes k r)
           (λ w. rw w)
-          (λ w. rw w (set-off x (held + r) (held + s) (useOf n writes k i r) (λ z. eqb-false r s y (omega arith)))))))
+          (λ w. rw w (set_off x (held + r) (held + s) (use_of n writes k i r) (λ z. eqb-false r s y (omega arith)))))))
 
       -- what is seen of signal s after the turn of task k
-      publish-row : (s k : ℕ) → s < tab.signals → k < tab.tasks → (a : List ℕ) → Like a
-          → at (atInstance (publishOne k) (foundIf (ended k) (instance tab k t)) a) (held + s) ≡ cond (tab.writes s k && ended k) (position_of (at-now s k)) (at a (held + s))
-      publish-row s k a h x q =
-          let v = position_of (at-now s k) in
+      publish_row : (s k : ℕ) → s < tab.signals → k < tab.tasks → (a : List ℕ) → Like a
+          → at (at_instance (publish_one k) (found_if (ended k) (instance tab k t)) a) (held + s) ≡ cond (tab.writes s k && ended k) (position_of (at_now s k)) (at a (held + s))
+      publish_row s k a h x q =
+          let v = position_of (at_now s k) in
           split (ended k)
           (λ o. rw o (
-          loop-seen Like (λ y. at y (held + s)) (λ r y. cond (eqb r s && tab.writes s k) v y) mostSignals (publishOne k (instance tab k t)) x
-          (λ r y b z. (publish-like k (instance tab k t) r b y z, publish-one s k r a h b y z)) q
-          ∙ loop-once mostSignals (λ r y. cond (eqb r s && tab.writes s k) v y) (at x (held + s)) s (omega (arith, F.few-signals)) (λ r y b z. rw (ne_eqb r s z))
+          loop_seen Like (λ y. at y (held + s)) (λ r y. cond (eqb r s && tab.writes s k) v y) most_signals (publish_one k (instance tab k t)) x
+          (λ r y b z. (publish_like k (instance tab k t) r b y z, publish_one_lem s k r a h b y z)) q
+          ∙ loop_once most_signals (λ r y. cond (eqb r s && tab.writes s k) v y) (at x (held + s)) s (omega (arith, F.few_signals)) (λ r y b z. rw (ne_eqb r s z))
           ∙ rw (eq-eqb s s refl) (split (tab.writes s k) (λ w. rw w) (λ w. rw w))))
           (λ o. rw o (split (tab.writes s k) (λ w. rw w) (λ w. rw w)))
 
       -- tasks that there are not close nothing
-      beyond : (k : ℕ) → tab.tasks ≤ k → k < mostTasks → closingOf n k ≡ Instance.Nothing
-      unfolding closingOf
-      beyond k a b = rw (K.no-task k a b) (none-of-none (eqb (phaseOf (at n (periods + k)) (at n tick) + 1) (at n (ends + k))) (at n (periods + k)) (at n tick))
+      beyond : (k : ℕ) → tab.tasks ≤ k → k < most_tasks → closing_of n k ≡ Instance.Nothing
+      unfolding closing_of
+      beyond k a b = rw (K.no_task k a b) (none_of_none (eqb (phase_of (at n (periods + k)) (at n tick) + 1) (at n (ends + k))) (at n (periods + k)) (at n tick))
 
       abbrev turn : ℕ → List ℕ → List ℕ
-      turn k a = atInstance (publishOne k) (closingOf a k) a
+      turn k a = at_instance (publish_one k) (closing_of a k) a
 
-      pub closed-like : Like (published n)
+      pub closed_like : Like (published n)
       unfolding published
-      closed-like = loop-keeps Like mostTasks turn n (λ k a h q. row-like k (closingOf a k) a q) (record { long = refl; off = λ k o. refl })
+      closed_like = loop_keeps Like most_tasks turn n (λ k a h q. row_like k (closing_of a k) a q) (record { long = refl; off = λ k o. refl })
 
-      pub closed_at : (s : ℕ) → s < tab.signals → at (published n) (held + s) ≡ maybe (publisher tab s t) (at n (held + s)) (λ k. position_of (at-now s k))
+      pub closed_at : (s : ℕ) → s < tab.signals → at (published n) (held + s) ≡ maybe (publisher tab s t) (at n (held + s)) (λ k. position_of (at_now s k))
       unfolding published publisher
       closed_at s a =
-          loop-seen Like (λ y. at y (held + s)) seen mostTasks turn n (λ k x h q. (row-like k (closingOf x k) x q, rw (like-closing x q k h) (task k h x q))) (record { long = refl; off = λ k o. refl })
-          ∙ loop-trim tab.tasks mostTasks seen (at n (held + s)) F.few-tasks (λ k y b h. rw (le-ltb k tab.tasks b))
-          ∙ loop-same tab.tasks seen (λ k y. cond (tab.writes s k && ended k) (position_of (at-now s k)) y) (at n (held + s)) (λ k y h. rw (lt-ltb k tab.tasks h))
-          ∙ last-acts (λ k. tab.writes s k && ended k) (λ k. position_of (at-now s k)) tab.tasks (at n (held + s))
+          loop_seen Like (λ y. at y (held + s)) seen most_tasks turn n (λ k x h q. (row_like k (closing_of x k) x q, rw (like_closing x q k h) (task k h x q))) (record { long = refl; off = λ k o. refl })
+          ∙ loop_trim tab.tasks most_tasks seen (at n (held + s)) F.few_tasks (λ k y b h. rw (le-ltb k tab.tasks b))
+          ∙ loop_same tab.tasks seen (λ k y. cond (tab.writes s k && ended k) (position_of (at_now s k)) y) (at n (held + s)) (λ k y h. rw (lt-ltb k tab.tasks h))
+          ∙ last_acts (λ k. tab.writes s k && ended k) (λ k. position_of (at_now s k)) tab.tasks (at n (held + s))
         where
           seen : ℕ → ℕ → ℕ
-          seen k y = cond (ltb k tab.tasks) (cond (tab.writes s k && ended k) (position_of (at-now s k)) y) y
+          seen k y = cond (ltb k tab.tasks) (cond (tab.writes s k && ended k) (position_of (at_now s k)) y) y
 
-          task : (k : ℕ) → k < mostTasks → (x : List ℕ) → Like x → at (atInstance (publishOne k) (closingOf n k) x) (held + s) ≡ seen k (at x (held + s))
+          task : (k : ℕ) → k < most_tasks → (x : List ℕ) → Like x → at (at_instance (publish_one k) (closing_of n k) x) (held + s) ≡ seen k (at x (held + s))
           task k h x q =
               split (ltb k tab.tasks)
-              (λ e. let b = ltb-true k tab.tasks e in rw (e, closing-is tab L F n K t now l k b) (publish-row s k a b x q))
+              (λ e. let b = ltb-true k tab.tasks e in rw (e, closing_is tab L F n K t now l k b) (publish_row s k a b x q))
               (λ e. rw (e, beyond k (ltb-false k tab.tasks e) h))
 
       -- nothing is held of a signal that does not exist
-      pub closed_none : (s : ℕ) → tab.signals ≤ s → s < mostSignals → at n (held + s) ≡ 0 → at (published n) (held + s) ≡ 0
-      unfolding published publishOne
+      pub closed_none : (s : ℕ) → tab.signals ≤ s → s < most_signals → at n (held + s) ≡ 0 → at (published n) (held + s) ≡ 0
+      unfolding published publish_one
       closed_none s a b e =
-          (loop-keeps None mostTasks turn n (λ k x h q. row k h (closingOf x k) x q) (record { long = refl; off = λ k o. refl }, e)).1
+          (loop_keeps None most_tasks turn n (λ k x h q. row k h (closing_of x k) x q) (record { long = refl; off = λ k o. refl }, e)).1
         where
           None : List ℕ → Type 0
           None x = Like x × (at x (held + s) ≡ 0)
 
-          one : (k i r : ℕ) → k < mostTasks → r < mostSignals → (x : List ℕ) → None x → None (publishOne k i r x)
+          one : (k i r : ℕ) → k < most_tasks → r < most_signals → (x : List ℕ) → None x → None (publish_one k i r x)
           one k i r h c x (q, z) = (
-            publish-like k i r c x q,
+            publish_like k i r c x q,
             split (eqb s r)
-                (λ y. let v = eqb-true s r y in rw (like-cell x q k r h c, no-signal k r h c (omega arith)) z)
+                (λ y. let v = eqb-true s r y in rw (like_cell x q k r h c, no_signal k r h c (omega arith)) z)
                 (λ y. split (lacks x writes k r)
                 (λ w. rw w z)
-                (λ w. rw w (set-off x (held + r) (held + s) (useOf x writes k i r) (λ v. eqb-false s r y (omega arith)) ∙ z))),
+                (λ w. rw w (set_off x (held + r) (held + s) (use_of x writes k i r) (λ v. eqb-false s r y (omega arith)) ∙ z))),
           )
 
-          row : (k : ℕ) → k < mostTasks → (o : Instance) (x : List ℕ) → None x → None (atInstance (publishOne k) o x)
-          row k h (Instance.At i) x q = loop-keeps None mostSignals (publishOne k i) x (λ r y c. one k i r h c y) q
+          row : (k : ℕ) → k < most_tasks → (o : Instance) (x : List ℕ) → None x → None (at_instance (publish_one k) o x)
+          row k h (Instance.At i) x q = loop_keeps None most_signals (publish_one k i) x (λ r y c. one k i r h c y) q
           row k h Instance.Nothing x q = q
 
       -- ---- copies at H
 
       module _ (st : State) (is-now : st.tick ≡ t) (H : (s : ℕ) → s < tab.signals → at n (held + s) ≡ position_of (get_or st.last s nowhere))
-          (N : (s : ℕ) → tab.signals ≤ s → s < mostSignals → at n (held + s) ≡ 0) where
+          (N : (s : ℕ) → tab.signals ≤ s → s < most_signals → at n (held + s) ≡ 0) where
         pub closed_is : (s : ℕ) → s < tab.signals → at (published n) (held + s) ≡ position_of (rules.closed tab L st s)
         closed_is s a =
-            rw is-now (closed_at s a ∙ ap (λ x. maybe (publisher tab s t) x (λ k. position_of (at-now s k))) (H s a) ∙ maybe-position (publisher tab s t) (get_or st.last s nowhere) (at-now s))
+            rw is-now (closed_at s a ∙ ap (λ x. maybe (publisher tab s t) x (λ k. position_of (at_now s k))) (H s a) ∙ maybe_position (publisher tab s t) (get_or st.last s nowhere) (at_now s))
 
         pub copied_is : (m : Memory) → Sized tab m → copies (published n) m.block ≡ (rules.copied tab L st m).block
-        unfolding copies carryOne rules.copied
+        unfolding copies carry_one rules.copied
         copied_is m z =
-            loop-trim tab.signals mostSignals (carryOne (published n)) m.block F.few-signals (λ s x a b. rw (element0 s b, K.none-carried s a b, closed_none s a b (N s a b)) (save-same x))
-            ∙ sym (loop-seen (Sized tab) (λ x. x.block) (carryOne (published n)) tab.signals copy m (λ s x h y. (put-sized tab x (L.place (carried s)) (get x (rules.closed tab L st s)) y, sym (copy_is s h x y))) z)
+            loop_trim tab.signals most_signals (carry_one (published n)) m.block F.few_signals (λ s x a b. rw (element0 s b, K.none_carried s a b, closed_none s a b (N s a b)) (save_same x))
+            ∙ sym (loop_seen (Sized tab) (λ x. x.block) (carry_one (published n)) tab.signals copy m (λ s x h y. (put_sized tab x (L.place (carried s)) (get x (rules.closed tab L st s)) y, sym (copy_is s h x y))) z)
           where
-            element0 : (s : ℕ) → s < mostSignals → at (published n) (parts.carried + s) ≡ at n (parts.carried + s)
-            element0 s b = published-off n (parts.carried + s) (λ r c e. omega arith)
+            element0 : (s : ℕ) → s < most_signals → at (published n) (parts.carried + s) ≡ at n (parts.carried + s)
+            element0 s b = published_off n (parts.carried + s) (λ r c e. omega arith)
 
             copy : ℕ → Memory → Memory
             copy s x = move x (rules.closed tab L st s) (L.place (carried s))
 
-            copy_is : (s : ℕ) → s < tab.signals → (x : Memory) → Sized tab x → carryOne (published n) s x.block ≡ (copy s x).block
+            copy_is : (s : ℕ) → s < tab.signals → (x : Memory) → Sized tab x → carry_one (published n) s x.block ≡ (copy s x).block
             copy_is s h x y =
-                rw (element0 s (omega (arith, F.few-signals)), K.carried-are s h, closed_is s h, load_is x (rules.closed tab L st s) y)
-                (save-is x (L.place (carried s)) (get x (rules.closed tab L st s)) y)
+                rw (element0 s (omega (arith, F.few_signals)), K.carried_are s h, closed_is s h, load_is x (rules.closed tab L st s) y)
+                (save_is x (L.place (carried s)) (get x (rules.closed tab L st s)) y)
 
 -- ---- at H: what is held is where the carried values stand
 
 module _ (n : List ℕ) (full : length n ≡ numbers) where
-  pub released-long : length (released n) ≡ numbers
-  unfolding released releaseOne
-  released-long = loop-keeps (λ a. length a ≡ numbers) mostSignals releaseOne n (λ s a h q. length-set a (held + s) (at a (parts.carried + s)) ∙ q) full
+  pub released_long : length (released n) ≡ numbers
+  unfolding released release_one
+  released_long = loop_keeps (λ a. length a ≡ numbers) most_signals release_one n (λ s a h q. length-set a (held + s) (at a (parts.carried + s)) ∙ q) full
 
-  pub released-at : (s : ℕ) → s < mostSignals → at (released n) (held + s) ≡ at n (parts.carried + s)
-  unfolding released releaseOne
-  released-at s h =
-      (loop-turn Same (λ a. Same a × (at a (held + s) ≡ at n (parts.carried + s))) mostSignals releaseOne n s h
+  pub released_at : (s : ℕ) → s < most_signals → at (released n) (held + s) ≡ at n (parts.carried + s)
+  unfolding released release_one
+  released_at s h =
+      (loop_turn Same (λ a. Same a × (at a (held + s) ≡ at n (parts.carried + s))) most_signals release_one n s h
       (λ r a b d q. keeps r a b q)
       (λ a (z, o). (keeps s a h (z, o), rw (o (parts.carried + s) (omega arith)) (get_or-set_same a (held + s) (at n (parts.carried + s)) 0 (omega arith))))
-      (λ r a b d (q, e). (keeps r a b q, set-off a (held + r) (held + s) (at a (parts.carried + r)) (λ z. d (omega arith)) ∙ e))
+      (λ r a b d (q, e). (keeps r a b q, set_off a (held + r) (held + s) (at a (parts.carried + r)) (λ z. d (omega arith)) ∙ e))
       (full, λ k o. refl)).1
     where
       Same : List ℕ → Type 0
       Same a = (length a ≡ numbers) × ((k : ℕ) → k < held → at a k ≡ at n k)
 
-      keeps : (r : ℕ) (a : List ℕ) → r < mostSignals → Same a → Same (releaseOne r a)
-      keeps r a b (z, o) = (length-set a (held + r) (at a (parts.carried + r)) ∙ z, λ k h. set-off a (held + r) k (at a (parts.carried + r)) (λ e. omega arith) ∙ o k h)
+      keeps : (r : ℕ) (a : List ℕ) → r < most_signals → Same a → Same (release_one r a)
+      keeps r a b (z, o) = (length-set a (held + r) (at a (parts.carried + r)) ∙ z, λ k h. set_off a (held + r) k (at a (parts.carried + r)) (λ e. omega arith) ∙ o k h)

@@ -7,29 +7,29 @@ use native.Mathlib.Numerals.{add-one}
 use native.Mathlib.Omega.{arith}
 use Rattle.rules.specs.Words.{every, up_to}
 
-pub acted-none : {A : Type 0} (f : ℕ → A → A) (a : A) → a ≡ up_to 0 f a
+pub acted_none : {A : Type 0} (f : ℕ → A → A) (a : A) → a ≡ up_to 0 f a
 unfolding up_to
-acted-none f a = refl
+acted_none f a = refl
 
-pub acted-turn : {A : Type 0} (f : ℕ → A → A) (a : A) (n : ℕ) {b o : A} → o ≡ f n b → b ≡ up_to n f a → o ≡ up_to (n + 1) f a
+pub acted_turn : {A : Type 0} (f : ℕ → A → A) (a : A) (n : ℕ) {b o : A} → o ≡ f n b → b ≡ up_to n f a → o ≡ up_to (n + 1) f a
 unfolding up_to
-acted-turn f a n e h = e ∙ ap (f n) h ∙ (rw add-one)
+acted_turn f a n e h = e ∙ ap (f n) h ∙ (rw add-one)
 
-pub acted-end : {A : Type 0} (f : ℕ → A → A) (a : A) (n m : ℕ) {o : A} → o ≡ up_to n f a → n ≤ m → m ≤ n → o ≡ up_to m f a
-acted-end f a n m e h l = e ∙ ap (λ k. up_to k f a) (le_antisymm h l)
+pub acted_end : {A : Type 0} (f : ℕ → A → A) (a : A) (n m : ℕ) {o : A} → o ≡ up_to n f a → n ≤ m → m ≤ n → o ≡ up_to m f a
+acted_end f a n m e h l = e ∙ ap (λ k. up_to k f a) (le_antisymm h l)
 
-pub tested-none : (p : ℕ → Bool) → true ≡ every 0 p
+pub tested_none : (p : ℕ → Bool) → true ≡ every 0 p
 unfolding every
-tested-none p = refl
+tested_none p = refl
 
-pub tested-turn : (p : ℕ → Bool) (n : ℕ) {ok t o : Bool} → o ≡ (t && ok) → ok ≡ every n p → t ≡ p n → o ≡ every (n + 1) p
+pub tested_turn : (p : ℕ → Bool) (n : ℕ) {ok t o : Bool} → o ≡ (t && ok) → ok ≡ every n p → t ≡ p n → o ≡ every (n + 1) p
 unfolding every
-tested-turn p n e a h = e ∙ ap₂ ◌&&◌ h a ∙ (rw add-one)
+tested_turn p n e a h = e ∙ ap₂ ◌&&◌ h a ∙ (rw add-one)
 
-pub tested-end : (p : ℕ → Bool) (n m : ℕ) {o : Bool} → o ≡ every n p → n ≤ m → m ≤ n → o ≡ every m p
-tested-end p n m e a b = e ∙ ap (λ k. every k p) (le_antisymm a b)
+pub tested_end : (p : ℕ → Bool) (n m : ℕ) {o : Bool} → o ≡ every n p → n ≤ m → m ≤ n → o ≡ every m p
+tested_end p n m e a b = e ∙ ap (λ k. every k p) (le_antisymm a b)
 
-pub every-same : (n : ℕ) (p q : ℕ → Bool) → ((k : ℕ) → k < n → p k ≡ q k) → every n p ≡ every n q
+pub every_same : (n : ℕ) (p q : ℕ → Bool) → ((k : ℕ) → k < n → p k ≡ q k) → every n p ≡ every n q
 unfolding every
-every-same zero p q e = refl
-every-same (suc n) p q e = ap₂ ◌&&◌ (e n (omega arith)) (every-same n p q (λ k h. e k (omega arith)))
+every_same zero p q e = refl
+every_same (suc n) p q e = ap₂ ◌&&◌ (e n (omega arith)) (every_same n p q (λ k h. e k (omega arith)))

@@ -1,7 +1,7 @@
 -- Document 01, "What comes back": when a state is fit. Assumes nothing.
 use Rattle.std.specs.Prelude.{ℕ, ◌+◌, Bool, ◌&&◌, ◌||◌, List, leb, ltb, eqb}
 use Rattle.rules.specs.Words.{every}
-use Rattle.rules.specs.Table.{mostTasks, mostSignals, mostUses, words, longest}
+use Rattle.rules.specs.Table.{most_tasks, most_signals, most_uses, words, longest}
 use Rattle.state.specs.Parts.{at, none, cell, loaded, hyper, tick, counts, reads, writes, uses, positions}
 
 -- an element number is inside the block
@@ -9,25 +9,25 @@ abbrev pub in_block : ℕ → Bool
 in_block p = ltb p words
 
 -- an index of the list of uses, from which `count` uses are inside the list
-abbrev pub inUses : (count first : ℕ) → Bool
-inUses count first = ltb first mostUses && leb (first + count) mostUses
+abbrev pub in_uses : (count first : ℕ) → Bool
+in_uses count first = ltb first most_uses && leb (first + count) most_uses
 
 -- no access, or one whose uses are inside the list
-abbrev pub accessFits : (count first : ℕ) → Bool
-accessFits count first = eqb first none || inUses count first
+abbrev pub access_fits : (count first : ℕ) → Bool
+access_fits count first = eqb first none || in_uses count first
 
 -- task t's count is inside the list of uses, and so are the uses of each of its accesses
-unfoldable pub taskFits : List ℕ → ℕ → Bool
-taskFits n t =
-    leb (at n (counts + t)) mostUses
-    && every mostSignals (λ s. accessFits (at n (counts + t)) (at n (cell reads t s)) && accessFits (at n (counts + t)) (at n (cell writes t s)))
+unfoldable pub task_fits : List ℕ → ℕ → Bool
+task_fits n t =
+    leb (at n (counts + t)) most_uses
+    && every most_signals (λ s. access_fits (at n (counts + t)) (at n (cell reads t s)) && access_fits (at n (counts + t)) (at n (cell writes t s)))
 
-unfoldable pub tasksFit : List ℕ → Bool
-tasksFit n = every mostTasks (taskFits n)
+unfoldable pub tasks_fit : List ℕ → Bool
+tasks_fit n = every most_tasks (task_fits n)
 
 -- each element number is inside the block: of a use, of an element 0, of what was published last
-unfoldable pub positionsFit : List ℕ → Bool
-positionsFit n = every positions (λ k. in_block (at n (uses + k)))
+unfoldable pub positions_fit : List ℕ → Bool
+positions_fit n = every positions (λ k. in_block (at n (uses + k)))
 
 -- marked as loaded, the hyper-period 1 to 10,000, the tick below it
 abbrev pub running : (loaded hyper tick : ℕ) → Bool
@@ -35,4 +35,4 @@ running l h t = eqb l 1 && leb 1 h && leb h longest && ltb t h
 
 -- running, and every count, index and element number is inside the block or list it points into
 unfoldable pub fit : List ℕ → Bool
-fit n = running (at n loaded) (at n hyper) (at n tick) && (tasksFit n && positionsFit n)
+fit n = running (at n loaded) (at n hyper) (at n tick) && (tasks_fit n && positions_fit n)

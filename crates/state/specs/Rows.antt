@@ -2,7 +2,7 @@
 -- Assumes nothing.
 use Rattle.std.specs.Prelude.{ℕ, ◌+◌, ◌/◌, ◌%◌, Bool, not, ◌&&◌, cond, List, leb, ltb, eqb, get_or, set}
 use Rattle.rules.specs.Words.{when, up_to}
-use Rattle.rules.specs.Table.{mostTasks, mostSignals, mostUses, words}
+use Rattle.rules.specs.Table.{most_tasks, most_signals, most_uses, words}
 use Rattle.state.specs.Parts.{at, none, cell, hyper, tick, periods, starts, ends, counts, writes, uses, carried, held}
 use Rattle.state.specs.declared.Instance.{Instance}
 use Rattle.state.specs.declared.Place.{Place}
@@ -10,12 +10,12 @@ use Rattle.state.specs.declared.Place.{Place}
 -- ---- a task's instance at the tick
 
 -- how far the tick is into its period
-abbrev pub phaseOf : (period tick : ℕ) → ℕ
-phaseOf p t = cond (eqb p 0) 0 (t % p)
+abbrev pub phase_of : (period tick : ℕ) → ℕ
+phase_of p t = cond (eqb p 0) 0 (t % p)
 
 -- the instance whose period the tick lies in, if the test holds; a task of period 0 has none, and none has one past its count
-unfoldable pub instanceIf : Bool → (period count tick : ℕ) → Instance
-instanceIf test p c t =
+unfoldable pub instance_if : Bool → (period count tick : ℕ) → Instance
+instance_if test p c t =
     when (not test) Instance.Nothing
     (when (eqb p 0) Instance.Nothing
     (when (leb c (t / p)) Instance.Nothing
@@ -23,22 +23,22 @@ instanceIf test p c t =
 
 module _ (n : List ℕ) (t : ℕ) where
   -- how far task t is into its period now
-  abbrev pub phaseNow : ℕ
-  phaseNow = phaseOf (at n (periods + t)) (at n tick)
+  abbrev pub phase_now : ℕ
+  phase_now = phase_of (at n (periods + t)) (at n tick)
 
   -- its instance now, if the test holds
-  abbrev pub nowIf : Bool → Instance
-  nowIf test = instanceIf test (at n (periods + t)) (at n (counts + t)) (at n tick)
+  abbrev pub now_if : Bool → Instance
+  now_if test = instance_if test (at n (periods + t)) (at n (counts + t)) (at n tick)
 
   -- the instance that opens now, that closes at the next tick, that is inside its window now
-  unfoldable pub openingOf : Instance
-  openingOf = nowIf (eqb phaseNow (at n (starts + t)))
+  unfoldable pub opening_of : Instance
+  opening_of = now_if (eqb phase_now (at n (starts + t)))
 
-  unfoldable pub closingOf : Instance
-  closingOf = nowIf (eqb (phaseNow + 1) (at n (ends + t)))
+  unfoldable pub closing_of : Instance
+  closing_of = now_if (eqb (phase_now + 1) (at n (ends + t)))
 
-  unfoldable pub insideOf : Instance
-  insideOf = nowIf (leb (at n (starts + t)) phaseNow && ltb phaseNow (at n (ends + t)))
+  unfoldable pub inside_of : Instance
+  inside_of = now_if (leb (at n (starts + t)) phase_now && ltb phase_now (at n (ends + t)))
 
 -- ---- a word of the store
 
@@ -55,49 +55,49 @@ abbrev pub lacks : List ℕ → (kind t s : ℕ) → Bool
 lacks n kind t s = eqb (at n (cell kind t s)) none
 
 -- where instance i of task t has signal s
-unfoldable pub useOf : List ℕ → (kind t i s : ℕ) → ℕ
-useOf n kind t i s = cond (ltb (at n (cell kind t s) + i) mostUses) (at n (uses + (at n (cell kind t s) + i))) 0
+unfoldable pub use_of : List ℕ → (kind t i s : ℕ) → ℕ
+use_of n kind t i s = cond (ltb (at n (cell kind t s) + i) most_uses) (at n (uses + (at n (cell kind t s) + i))) 0
 
 -- closing: the signal is held where the instance has it
-unfoldable pub publishOne : (t i s : ℕ) → List ℕ → List ℕ
-publishOne t i s n = cond (lacks n writes t s) n (set n (held + s) (useOf n writes t i s))
+unfoldable pub publish_one : (t i s : ℕ) → List ℕ → List ℕ
+publish_one t i s n = cond (lacks n writes t s) n (set n (held + s) (use_of n writes t i s))
 
 -- the instance's element is set to the signal's word
-unfoldable pub fillOne : (n words : List ℕ) → (t i s : ℕ) → List ℕ → List ℕ
-fillOne n ws t i s store = cond (lacks n writes t s) store (save store (useOf n writes t i s) (get_or ws s 0))
+unfoldable pub fill_one : (n words : List ℕ) → (t i s : ℕ) → List ℕ → List ℕ
+fill_one n ws t i s store = cond (lacks n writes t s) store (save store (use_of n writes t i s) (get_or ws s 0))
 
 -- at H: what is held is copied to the signal's element 0, and element 0 is held
-unfoldable pub carryOne : List ℕ → (s : ℕ) → List ℕ → List ℕ
-carryOne n s store = save store (at n (carried + s)) (load store (at n (held + s)))
+unfoldable pub carry_one : List ℕ → (s : ℕ) → List ℕ → List ℕ
+carry_one n s store = save store (at n (carried + s)) (load store (at n (held + s)))
 
-unfoldable pub releaseOne : (s : ℕ) → List ℕ → List ℕ
-releaseOne s n = set n (held + s) (at n (carried + s))
+unfoldable pub release_one : (s : ℕ) → List ℕ → List ℕ
+release_one s n = set n (held + s) (at n (carried + s))
 
 -- ---- all signals, all tasks
 
 -- for every signal, at the instance if there is one
-abbrev pub atInstance : (ℕ → ℕ → List ℕ → List ℕ) → Instance → List ℕ → List ℕ
-atInstance f (Instance.At i) a = up_to mostSignals (f i) a
-atInstance f Instance.Nothing a = a
+abbrev pub at_instance : (ℕ → ℕ → List ℕ → List ℕ) → Instance → List ℕ → List ℕ
+at_instance f (Instance.At i) a = up_to most_signals (f i) a
+at_instance f Instance.Nothing a = a
 
 -- the numbers after the closings of the next tick
 unfoldable pub published : List ℕ → List ℕ
-published = up_to mostTasks (λ t n. atInstance (publishOne t) (closingOf n t) n)
+published = up_to most_tasks (λ t n. at_instance (publish_one t) (closing_of n t) n)
 
 -- the elements of the instances that the test names, each set to the word of its signal
 abbrev pub fill : (test : ℕ → Instance) → (n words store : List ℕ) → List ℕ
-fill test n ws = up_to mostTasks (λ t. atInstance (fillOne n ws t) (test t))
+fill test n ws = up_to most_tasks (λ t. at_instance (fill_one n ws t) (test t))
 
 -- the store after the openings of the tick
 unfoldable pub openings : (n defaults store : List ℕ) → List ℕ
-openings n = fill (openingOf n) n
+openings n = fill (opening_of n) n
 
 -- the store after the copies at H, and the numbers after them
 unfoldable pub copies : (n store : List ℕ) → List ℕ
-copies n = up_to mostSignals (carryOne n)
+copies n = up_to most_signals (carry_one n)
 
 unfoldable pub released : List ℕ → List ℕ
-released = up_to mostSignals releaseOne
+released = up_to most_signals release_one
 
 -- The lists that a step changes.
 pub record Lists : Type 0 where
@@ -114,14 +114,14 @@ advanced n store = cond (ltb (at n tick + 1) (at n hyper)) (lists (set n tick (a
 -- ---- an access
 
 -- where the open instance has the signal, and outside where none is open
-abbrev pub whereOpen : List ℕ → (kind t s : ℕ) → Instance → Place
-whereOpen n kind t s (Instance.At i) = Place.At (useOf n kind t i s)
-whereOpen n kind t s Instance.Nothing = Place.Outside
+abbrev pub where_open : List ℕ → (kind t s : ℕ) → Instance → Place
+where_open n kind t s (Instance.At i) = Place.At (use_of n kind t i s)
+where_open n kind t s Instance.Nothing = Place.Outside
 
 -- where task t finds signal s now
 unfoldable pub place_of : List ℕ → (kind t s : ℕ) → Place
 place_of n kind t s =
-    when (leb mostTasks t) Place.NoAccess
-    (when (leb mostSignals s) Place.NoAccess
+    when (leb most_tasks t) Place.NoAccess
+    (when (leb most_signals s) Place.NoAccess
     (when (lacks n kind t s) Place.NoAccess
-    (whereOpen n kind t s (insideOf n t))))
+    (where_open n kind t s (inside_of n t))))

@@ -1,10 +1,10 @@
 // The machine's numbers in one list with named parts: fitness, a task's instance at the tick, and what is done for one signal, one task, all tasks.
 ghost use Rattle.std.specs.Prelude.{◌≡◌, ◌||◌, ℕ, ◌+◌, ◌<◌, ◌≤◌, leb, eqb};
-ghost use Rattle.rules.specs.Table.{mostTasks, mostSignals, mostUses};
+ghost use Rattle.rules.specs.Table.{most_tasks, most_signals, most_uses};
 ghost use Rattle.rules.specs.Words.{up_to};
-ghost use Rattle.state.specs.Parts.{at, none, tick, periods, starts, ends, counts, lastKind};
-ghost use Rattle.state.specs.Fitness.{in_block, inUses, taskFits, tasksFit, positionsFit, running, fit};
-ghost use Rattle.state.specs.Rows.{phaseOf, instanceIf, phaseNow, nowIf, openingOf, closingOf, insideOf, load, save, lacks, useOf, publishOne, fillOne, carryOne, releaseOne, atInstance, published, openings, copies, released, advanced, place_of};
+ghost use Rattle.state.specs.Parts.{at, none, tick, periods, starts, ends, counts, last_kind};
+ghost use Rattle.state.specs.Fitness.{in_block, in_uses, task_fits, tasks_fit, positions_fit, running, fit};
+ghost use Rattle.state.specs.Rows.{phase_of, instance_if, phase_now, now_if, opening_of, closing_of, inside_of, load, save, lacks, use_of, publish_one, fill_one, carry_one, release_one, at_instance, published, openings, copies, released, advanced, place_of};
 
 use fields::both;
 use rules::{LONGEST, MOST_SIGNALS, MOST_TASKS, MOST_USES, WORDS};
@@ -83,7 +83,7 @@ fn in_block(position: u16) -> bool
 }
 
 fn positions_fit(numbers: &[u16; NUMBERS]) -> bool
-    ensures { result ≡ positionsFit numbers.now }
+    ensures { result ≡ positions_fit numbers.now }
 {
     let mut ok = true;
     for k in 0..POSITIONS {
@@ -94,8 +94,8 @@ fn positions_fit(numbers: &[u16; NUMBERS]) -> bool
 
 // The last index from which the uses of so many instances are inside the list; of none, the list's last.
 fn last_first(count: u16) -> u16
-    requires { count ≤ mostUses }
-    ensures { (first : ℕ) → leb first result ≡ inUses count first }
+    requires { count ≤ most_uses }
+    ensures { (first : ℕ) → leb first result ≡ in_uses count first }
 {
     if count == 0 {
         return MOST_COUNT - 1;
@@ -111,8 +111,8 @@ fn access_fits(last: u16, first: u16) -> bool
 }
 
 fn task_fits(numbers: &[u16; NUMBERS], task: usize) -> bool
-    requires { task < mostTasks }
-    ensures { result ≡ taskFits numbers.now task }
+    requires { task < most_tasks }
+    ensures { result ≡ task_fits numbers.now task }
 {
     let count = numbers[COUNTS + task];
     if MOST_COUNT < count {
@@ -129,7 +129,7 @@ fn task_fits(numbers: &[u16; NUMBERS], task: usize) -> bool
 }
 
 fn tasks_fit(numbers: &[u16; NUMBERS]) -> bool
-    ensures { result ≡ tasksFit numbers.now }
+    ensures { result ≡ tasks_fit numbers.now }
 {
     let mut ok = true;
     for t in 0..MOST_TASKS {
@@ -159,28 +159,28 @@ pub fn is_fit(numbers: &[u16; NUMBERS]) -> bool
 // A task's window, and how many instances it has; a task that the table does not have has none.
 
 fn period(numbers: &[u16; NUMBERS], task: usize) -> u16
-    requires { task < mostTasks }
+    requires { task < most_tasks }
     ensures { result ≡ at numbers.now (periods + task) }
 {
     numbers[PERIODS + task]
 }
 
 fn start(numbers: &[u16; NUMBERS], task: usize) -> u16
-    requires { task < mostTasks }
+    requires { task < most_tasks }
     ensures { result ≡ at numbers.now (starts + task) }
 {
     numbers[STARTS + task]
 }
 
 fn end(numbers: &[u16; NUMBERS], task: usize) -> u16
-    requires { task < mostTasks }
+    requires { task < most_tasks }
     ensures { result ≡ at numbers.now (ends + task) }
 {
     numbers[ENDS + task]
 }
 
 pub fn instances(numbers: &[u16; NUMBERS], task: usize) -> u16
-    requires { task < mostTasks }
+    requires { task < most_tasks }
     ensures { result ≡ at numbers.now (counts + task) }
 {
     numbers[COUNTS + task]
@@ -189,14 +189,14 @@ pub fn instances(numbers: &[u16; NUMBERS], task: usize) -> u16
 // A task's instance at the tick.
 
 fn phase(period: u16, tick: u16) -> u16
-    ensures { (result ≡ phaseOf period tick) × (result < 65535) }
+    ensures { (result ≡ phase_of period tick) × (result < 65535) }
 {
     if period == 0 { 0 } else { tick % period }
 }
 
 // The instance whose period the tick lies in, if the test holds and the task has it.
 fn instance_if(test: bool, period: u16, count: u16, tick: u16) -> Instance
-    ensures { result ≡ instanceIf test period count tick }
+    ensures { result ≡ instance_if test period count tick }
 {
     if !test {
         return Instance::Nothing;
@@ -213,16 +213,16 @@ fn instance_if(test: bool, period: u16, count: u16, tick: u16) -> Instance
 
 // How far the task is into its period now.
 fn phase_now(numbers: &[u16; NUMBERS], task: usize) -> u16
-    requires { task < mostTasks }
-    ensures { (result ≡ phaseNow numbers.now task) × (result < 65535) }
+    requires { task < most_tasks }
+    ensures { (result ≡ phase_now numbers.now task) × (result < 65535) }
 {
     phase(period(numbers, task), numbers[TICK])
 }
 
 // Its instance now, if the test holds.
 fn now_if(numbers: &[u16; NUMBERS], task: usize, test: bool) -> Instance
-    requires { task < mostTasks }
-    ensures { result ≡ nowIf numbers.now task test }
+    requires { task < most_tasks }
+    ensures { result ≡ now_if numbers.now task test }
 {
     instance_if(
         test,
@@ -233,24 +233,24 @@ fn now_if(numbers: &[u16; NUMBERS], task: usize, test: bool) -> Instance
 }
 
 fn opening(numbers: &[u16; NUMBERS], task: usize) -> Instance
-    requires { task < mostTasks }
-    ensures { result ≡ openingOf numbers.now task }
+    requires { task < most_tasks }
+    ensures { result ≡ opening_of numbers.now task }
 {
     let test = phase_now(numbers, task) == start(numbers, task);
     now_if(numbers, task, test)
 }
 
 fn closing(numbers: &[u16; NUMBERS], task: usize) -> Instance
-    requires { task < mostTasks }
-    ensures { result ≡ closingOf numbers.now task }
+    requires { task < most_tasks }
+    ensures { result ≡ closing_of numbers.now task }
 {
     let test = phase_now(numbers, task) + 1 == end(numbers, task);
     now_if(numbers, task, test)
 }
 
 pub fn inside(numbers: &[u16; NUMBERS], task: usize) -> Instance
-    requires { task < mostTasks }
-    ensures { result ≡ insideOf numbers.now task }
+    requires { task < most_tasks }
+    ensures { result ≡ inside_of numbers.now task }
 {
     let p = phase_now(numbers, task);
     let test = both(start(numbers, task) <= p, p < end(numbers, task));
@@ -279,7 +279,7 @@ pub fn save(store: &mut [u32; WORDS], position: u16, word: u32)
 // One signal of one task's instance. `kind` is the part READS or WRITES.
 
 fn lacks(numbers: &[u16; NUMBERS], kind: usize, task: usize, signal: usize) -> bool
-    requires { (kind ≤ lastKind) × (task < mostTasks) × (signal < mostSignals) }
+    requires { (kind ≤ last_kind) × (task < most_tasks) × (signal < most_signals) }
     ensures { result ≡ lacks numbers.now kind task signal }
 {
     numbers[kind + task * MOST_SIGNALS + signal] == NONE
@@ -287,16 +287,16 @@ fn lacks(numbers: &[u16; NUMBERS], kind: usize, task: usize, signal: usize) -> b
 
 // Where the instance has the signal. A fit state has no use past the list; there 0 is found.
 fn use_of(numbers: &[u16; NUMBERS], kind: usize, task: usize, instance: u16, signal: usize) -> u16
-    requires { (kind ≤ lastKind) × (task < mostTasks) × (signal < mostSignals) }
-    ensures { result ≡ useOf numbers.now kind task instance signal }
+    requires { (kind ≤ last_kind) × (task < most_tasks) × (signal < most_signals) }
+    ensures { result ≡ use_of numbers.now kind task instance signal }
 {
     let k = wide(numbers[kind + task * MOST_SIGNALS + signal]) + wide(instance);
     if k < MOST_USES { numbers[USES + k] } else { 0 }
 }
 
 fn publish_one(numbers: &mut [u16; NUMBERS], task: usize, instance: u16, signal: usize)
-    requires { (task < mostTasks) × (signal < mostSignals) }
-    ensures { numbers.new ≡ publishOne task instance signal numbers.old }
+    requires { (task < most_tasks) × (signal < most_signals) }
+    ensures { numbers.new ≡ publish_one task instance signal numbers.old }
 {
     if lacks(numbers, WRITES, task, signal) {
         return;
@@ -312,8 +312,8 @@ fn fill_one<'a>(
     instance: u16,
     signal: usize,
 )
-    requires { (task < mostTasks) × (signal < mostSignals) }
-    ensures { store.new ≡ fillOne numbers.now words.now task instance signal store.old }
+    requires { (task < most_tasks) × (signal < most_signals) }
+    ensures { store.new ≡ fill_one numbers.now words.now task instance signal store.old }
 {
     if lacks(numbers, WRITES, task, signal) {
         return;
@@ -326,16 +326,16 @@ fn fill_one<'a>(
 }
 
 fn carry_one(numbers: &[u16; NUMBERS], store: &mut [u32; WORDS], signal: usize)
-    requires { signal < mostSignals }
-    ensures { store.new ≡ carryOne numbers.now signal store.old }
+    requires { signal < most_signals }
+    ensures { store.new ≡ carry_one numbers.now signal store.old }
 {
     let word = load(store, numbers[HELD + signal]);
     save(store, numbers[CARRIED + signal], word);
 }
 
 fn release_one(numbers: &mut [u16; NUMBERS], signal: usize)
-    requires { signal < mostSignals }
-    ensures { numbers.new ≡ releaseOne signal numbers.old }
+    requires { signal < most_signals }
+    ensures { numbers.new ≡ release_one signal numbers.old }
 {
     numbers[HELD + signal] = numbers[CARRIED + signal];
 }
@@ -343,8 +343,8 @@ fn release_one(numbers: &mut [u16; NUMBERS], signal: usize)
 // Every signal of one task's instance.
 
 fn publish_row(numbers: &mut [u16; NUMBERS], task: usize, instance: u16)
-    requires { task < mostTasks }
-    ensures { numbers.new ≡ up_to mostSignals (publishOne task instance) numbers.old }
+    requires { task < most_tasks }
+    ensures { numbers.new ≡ up_to most_signals (publish_one task instance) numbers.old }
 {
     for s in 0..MOST_SIGNALS {
         publish_one(numbers, task, instance, s);
@@ -358,8 +358,8 @@ fn fill_row<'a>(
     task: usize,
     instance: u16,
 )
-    requires { task < mostTasks }
-    ensures { store.new ≡ up_to mostSignals (fillOne numbers.now words.now task instance) store.old }
+    requires { task < most_tasks }
+    ensures { store.new ≡ up_to most_signals (fill_one numbers.now words.now task instance) store.old }
 {
     for s in 0..MOST_SIGNALS {
         fill_one(numbers, words, store, task, instance, s);
@@ -369,8 +369,8 @@ fn fill_row<'a>(
 // One task: the instance that closes or opens, if one does.
 
 fn publish_task(numbers: &mut [u16; NUMBERS], task: usize, closes: Instance)
-    requires { task < mostTasks }
-    ensures { numbers.new ≡ atInstance (publishOne task) closes numbers.old }
+    requires { task < most_tasks }
+    ensures { numbers.new ≡ at_instance (publish_one task) closes numbers.old }
 {
     match closes {
         Instance::At(i) => publish_row(numbers, task, i),
@@ -385,8 +385,8 @@ fn fill_task<'a>(
     task: usize,
     opens: Instance,
 )
-    requires { task < mostTasks }
-    ensures { store.new ≡ atInstance (fillOne numbers.now words.now task) opens store.old }
+    requires { task < most_tasks }
+    ensures { store.new ≡ at_instance (fill_one numbers.now words.now task) opens store.old }
 {
     match opens {
         Instance::At(i) => fill_row(numbers, words, store, task, i),
@@ -450,7 +450,7 @@ pub fn advance(numbers: &mut [u16; NUMBERS], store: &mut [u32; WORDS])
 
 // Where a task finds a signal now: no such access is said before outside its window.
 pub fn locate(numbers: &[u16; NUMBERS], kind: usize, task: usize, signal: usize) -> Place
-    requires { kind ≤ lastKind }
+    requires { kind ≤ last_kind }
     ensures { result ≡ place_of numbers.now kind task signal }
 {
     if MOST_TASKS <= task {

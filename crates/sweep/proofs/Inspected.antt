@@ -14,272 +14,272 @@ use lib.Seq.{drop-cons, drop-length, get_or-set_same, get_or-set_other}
 use borrow.Author.Tests.{eqb-true, eqb-false}
 use Rattle.rules.specs.Words.{total, times}
 use Rattle.rules.specs.Windows.{Table, opens, closes, instance, instances, hyper}
-use Rattle.rules.specs.Table.{mostTasks, mostElements}
+use Rattle.rules.specs.Table.{most_tasks, most_elements}
 use Rattle.rules.specs.Schedule.{Schedule}
-use Rattle.rules.specs.Bytes.{wi, ri, writersBelow, readersBelow, size_of, start_of, scheduleIn}
-use Rattle.rules.specs.Reading.{Grid, cell_at, task_of, noSignals, writesIn, readsIn}
+use Rattle.rules.specs.Bytes.{wi, ri, writers_below, readers_below, size_of, start_of, schedule_in}
+use Rattle.rules.specs.Reading.{Grid, cell_at, task_of, no_signals, writes_in, reads_in}
 use Rattle.rules.specs.declared.Tasks.{Tasks}
-use Rattle.theory.specs.Sweep.{Pass, taskIn, tickIn, isOpening, opened, closed, acted, readerOpens, writerOpens, writerCloses, handled, events, through, never, noneHeld, sweep}
-use Rattle.theory.proofs.Tests.{split, holds, not-both}
-use Rattle.theory.proofs.Time.{instance-is, instance-lt, closes-le}
-use Rattle.theory.proofs.Swept.{opening-digits, closing-digits}
-use Rattle.theory.proofs.Lists.{all-at}
-use Rattle.theory.proofs.Events.{IsEvent, events-all, events-up, few-events}
-use Rattle.events.specs.Order.{tasksTable, mostEvents}
-use Rattle.events.proofs.Alone.{events-alone}
-use Rattle.sweep.specs.Pass.{gridTable, passOf, may_read, may_write, elementAt, Inside, Writes, read_of, wroteOf, closedOf, handledOf, Handles, Inspects, AreActs}
+use Rattle.theory.specs.Sweep.{Pass, task_in, tick_in, is_opening, opened, closed, acted, reader_opens, writer_opens, writer_closes, handled, events, through, never, none_held, sweep}
+use Rattle.theory.proofs.Tests.{split, holds, not_both}
+use Rattle.theory.proofs.Time.{instance_is, instance_lt, closes_le}
+use Rattle.theory.proofs.Swept.{opening_digits, closing_digits}
+use Rattle.theory.proofs.Lists.{all_at}
+use Rattle.theory.proofs.Events.{IsEvent, events_all, events_up, few_events}
+use Rattle.events.specs.Order.{tasks_table, most_events}
+use Rattle.events.proofs.Alone.{events_alone}
+use Rattle.sweep.specs.Pass.{grid_table, pass_of, may_read, may_write, element_at, Inside, Writes, read_of, wrote_of, closed_of, handled_of, Handles, Inspects, AreActs}
 use Rattle.sweep.specs.declared.Places.{Places}
 use Rattle.sweep.specs.declared.Standing.{Standing}
 use Rattle.sweep.specs.declared.Turn.{Turn}
 
 -- ---- places
 
-pub total-within : (f : ℕ → ℕ) (n k : ℕ) → k < n → total f k + f k ≤ total f n
+pub total_within : (f : ℕ → ℕ) (n k : ℕ) → k < n → total f k + f k ≤ total f n
 unfolding total
-total-within f zero k h = absurd (omega arith)
-total-within f (suc n) k h =
+total_within f zero k h = absurd (omega arith)
+total_within f (suc n) k h =
     split (eqb k n)
     (λ q. rw (eqb-true k n q) (omega arith))
-    (λ q. let z = eqb-false k n q in omega (arith, total-within f n k (omega arith)))
+    (λ q. let z = eqb-false k n q in omega (arith, total_within f n k (omega arith)))
 
 module _ (tab : Table) (s : ℕ) where
   -- records have 7 bytes
-  pub writer-step : (k i : ℕ) → start_of tab (wi s k i) + 6 ≡ start_of tab (wi s k 0) + 6 + 7 * i
+  pub writer_step : (k i : ℕ) → start_of tab (wi s k i) + 6 ≡ start_of tab (wi s k 0) + 6 + 7 * i
   unfolding start_of
-  writer-step k i = omega arith
+  writer_step k i = omega arith
 
-  pub reader-step : (k i : ℕ) → start_of tab (ri s k i) + 6 ≡ start_of tab (ri s k 0) + 6 + 7 * i
+  pub reader_step : (k i : ℕ) → start_of tab (ri s k i) + 6 ≡ start_of tab (ri s k 0) + 6 + 7 * i
   unfolding start_of
-  reader-step k i = omega arith
+  reader_step k i = omega arith
 
   -- and each stands among those of its signal
   among : (allowed : ℕ → Bool) (k i : ℕ) → k < tab.tasks → allowed k ≡ true → i < instances tab k
       → total (λ k. times (allowed k) (instances tab k)) k + i < total (λ k. times (allowed k) (instances tab k)) tab.tasks
   among allowed k i h w l =
       let b : times (allowed k) (instances tab k) ≡ instances tab k = rw w in
-      omega (arith, total-within (λ k. times (allowed k) (instances tab k)) tab.tasks k h)
+      omega (arith, total_within (λ k. times (allowed k) (instances tab k)) tab.tasks k h)
 
-  pub writer-inside : (k i : ℕ) → k < tab.tasks → tab.writes s k ≡ true → i < instances tab k → start_of tab (wi s k i) + 6 < total (size_of tab) (suc s)
-  unfolding start_of size_of writersBelow total
-  writer-inside k i h w l = omega (arith, among (tab.writes s) k i h w l)
+  pub writer_inside : (k i : ℕ) → k < tab.tasks → tab.writes s k ≡ true → i < instances tab k → start_of tab (wi s k i) + 6 < total (size_of tab) (suc s)
+  unfolding start_of size_of writers_below total
+  writer_inside k i h w l = omega (arith, among (tab.writes s) k i h w l)
 
-  pub reader-inside : (k i : ℕ) → k < tab.tasks → tab.reads s k ≡ true → i < instances tab k → start_of tab (ri s k i) + 6 < total (size_of tab) (suc s)
-  unfolding start_of size_of readersBelow total
-  reader-inside k i h w l = omega (arith, among (tab.reads s) k i h w l)
+  pub reader_inside : (k i : ℕ) → k < tab.tasks → tab.reads s k ≡ true → i < instances tab k → start_of tab (ri s k i) + 6 < total (size_of tab) (suc s)
+  unfolding start_of size_of readers_below total
+  reader_inside k i h w l = omega (arith, among (tab.reads s) k i h w l)
 
 -- ---- what is nothing for the signal
 
 module _ (grid : Grid) (s : ℕ) where
-  pub acts-start : (acts : List ℕ) → length acts ≡ 2 * mostTasks → AreActs grid s 0 acts
-  acts-start acts e = record { closing = λ k h. absurd (not-suc-le-zero h); opening = λ k h. absurd (not-suc-le-zero h); size = e }
+  pub acts_start : (acts : List ℕ) → length acts ≡ 2 * most_tasks → AreActs grid s 0 acts
+  acts_start acts e = record { closing = λ k h. absurd (not-suc-le-zero h); opening = λ k h. absurd (not-suc-le-zero h); size = e }
 
-  pub acts-more : (k : ℕ) (acts : List ℕ) → k < mostTasks → AreActs grid s k acts → AreActs grid s (k + 1) (set (set acts k (cell_at grid k s / 2)) (mostTasks + k) (cell_at grid k s))
-  acts-more k acts h A =
+  pub acts_more : (k : ℕ) (acts : List ℕ) → k < most_tasks → AreActs grid s k acts → AreActs grid s (k + 1) (set (set acts k (cell_at grid k s / 2)) (most_tasks + k) (cell_at grid k s))
+  acts_more k acts h A =
       let n = length-set acts k (cell_at grid k s / 2) in
       record {
-        closing = λ j l. let far : ¬ (j ≡ mostTasks + k) = λ e. let z : ⊥ = omega arith in z in
-            rw (get_or-set_other (set acts k (cell_at grid k s / 2)) (mostTasks + k) j (cell_at grid k s) 0 far)
+        closing = λ j l. let far : ¬ (j ≡ most_tasks + k) = λ e. let z : ⊥ = omega arith in z in
+            rw (get_or-set_other (set acts k (cell_at grid k s / 2)) (most_tasks + k) j (cell_at grid k s) 0 far)
             (split (eqb j k)
             (λ q. rw (eqb-true j k q, get_or-set_same acts k (cell_at grid k s / 2) 0 (omega (arith, A.size))))
             (λ q. let z = eqb-false j k q in rw (get_or-set_other acts k j (cell_at grid k s / 2) 0 z) (A.closing j (omega arith))));
         opening = λ j l. split (eqb j k)
-            (λ q. rw (eqb-true j k q, get_or-set_same (set acts k (cell_at grid k s / 2)) (mostTasks + k) (cell_at grid k s) 0 (omega (arith, A.size))))
+            (λ q. rw (eqb-true j k q, get_or-set_same (set acts k (cell_at grid k s / 2)) (most_tasks + k) (cell_at grid k s) 0 (omega (arith, A.size))))
             (λ q. let z = eqb-false j k q in
-            let far : ¬ (mostTasks + j ≡ mostTasks + k) = λ e. z (omega arith) in
-            let low : ¬ (mostTasks + j ≡ k) = λ e. let w : ⊥ = omega arith in w in
-            rw (get_or-set_other (set acts k (cell_at grid k s / 2)) (mostTasks + k) (mostTasks + j) (cell_at grid k s) 0 far, get_or-set_other acts k (mostTasks + j) (cell_at grid k s / 2) 0 low) (A.opening j (omega arith)));
-        size = length-set (set acts k (cell_at grid k s / 2)) (mostTasks + k) (cell_at grid k s) ∙ n ∙ A.size;
+            let far : ¬ (most_tasks + j ≡ most_tasks + k) = λ e. z (omega arith) in
+            let low : ¬ (most_tasks + j ≡ k) = λ e. let w : ⊥ = omega arith in w in
+            rw (get_or-set_other (set acts k (cell_at grid k s / 2)) (most_tasks + k) (most_tasks + j) (cell_at grid k s) 0 far, get_or-set_other acts k (most_tasks + j) (cell_at grid k s / 2) 0 low) (A.opening j (omega arith)));
+        size = length-set (set acts k (cell_at grid k s / 2)) (most_tasks + k) (cell_at grid k s) ∙ n ∙ A.size;
       }
 
 -- ---- an opening or closing
 
 -- two ways that leave the same element standing
-cond-current : (b : Bool) (p q : Pass) → p.current ≡ q.current → (cond b p q).current ≡ q.current
-cond-current true p q e = e
-cond-current false p q e = refl
+cond_current : (b : Bool) (p q : Pass) → p.current ≡ q.current → (cond b p q).current ≡ q.current
+cond_current true p q e = e
+cond_current false p q e = refl
 
 module _ (bytes : List ℕ) (p : Pass) (x : Turn) where
-  opening-current : (wroteOf bytes (read_of bytes p x) x).current ≡ p.current
-  unfolding read_of wroteOf
-  opening-current = cond-current (may_write x.cell) _ _ refl ∙ cond-current (may_read x.cell) _ _ refl
+  opening_current : (wrote_of bytes (read_of bytes p x) x).current ≡ p.current
+  unfolding read_of wrote_of
+  opening_current = cond_current (may_write x.cell) _ _ refl ∙ cond_current (may_read x.cell) _ _ refl
 
-  closing-current : p.current < mostElements → Writes bytes x (x.tick - 1) → (closedOf bytes p x).current < mostElements
-  unfolding closedOf
-  closing-current h w = split (may_write x.cell) (λ q. rw q (w q).1) (λ q. rw q h)
+  closing_current : p.current < most_elements → Writes bytes x (x.tick - 1) → (closed_of bytes p x).current < most_elements
+  unfolding closed_of
+  closing_current h w = split (may_write x.cell) (λ q. rw q (w q).1) (λ q. rw q h)
 
 module _ (tasks : Tasks) (grid : Grid) (s : ℕ) (list : List ℕ) (count : ℕ) (places : Places) (bytes : List ℕ) (I : Inspects tasks grid s list count places bytes) where
   abbrev tab : Table
-  tab = gridTable tasks grid
+  tab = grid_table tasks grid
 
   abbrev E : Schedule
-  E = scheduleIn tab bytes
+  E = schedule_in tab bytes
 
   abbrev turn : ℕ → ℕ → Turn
   turn k t = record { cell = cell_at grid k s; tick = t; task = task_of tasks k; readers = get_or places.readers k 0; writers = get_or places.writers k 0 }
 
   -- what the code has at hand of the event n
-  abbrev pub turnAt : ℕ → Turn
-  turnAt n = turn (taskIn n) (n / (mostTasks * 2))
+  abbrev pub turn_at : ℕ → Turn
+  turn_at n = turn (task_in n) (n / (most_tasks * 2))
 
-  turn_is : (n : ℕ) → turnAt n ≡ turn (taskIn n) (tickIn n)
-  turn_is n = ap (turn (taskIn n)) (sym (div-div-eq-div-mul n mostTasks 2))
+  turn_is : (n : ℕ) → turn_at n ≡ turn (task_in n) (tick_in n)
+  turn_is n = ap (turn (task_in n)) (sym (div-div-eq-div-mul n most_tasks 2))
 
   -- what an event says
   record Known (n : ℕ) : Type 0 where
-    task : taskIn n < tab.tasks
-    tick : tickIn n ≤ hyper tab
-    opens-at : isOpening n ≡ true → (opens tab (taskIn n) (instance tab (taskIn n) (tickIn n)) ≡ tickIn n) × (tickIn n < hyper tab)
-    closes_at : isOpening n ≡ false → (t : ℕ) × (tickIn n ≡ suc t) × (closes tab (taskIn n) (instance tab (taskIn n) t) ≡ suc t) × (t < hyper tab)
+    task : task_in n < tab.tasks
+    tick : tick_in n ≤ hyper tab
+    opens_at_lem : is_opening n ≡ true → (opens tab (task_in n) (instance tab (task_in n) (tick_in n)) ≡ tick_in n) × (tick_in n < hyper tab)
+    closes_at : is_opening n ≡ false → (t : ℕ) × (tick_in n ≡ suc t) × (closes tab (task_in n) (instance tab (task_in n) t) ≡ suc t) × (t < hyper tab)
 
   known : (n : ℕ) → IsEvent tab n → Known n
   known n (k, i, h, l, inl e) =
       let F = I.given.fits in
-      let d = opening-digits (opens tab k i) k (omega (arith, F.few-tasks)) in
-      let z = instance-is tab F k i (opens tab k i) h (omega arith) (omega (arith, F.window k h)) in
-      let w : opens tab k i < hyper tab = omega (arith, F.window k h, closes-le tab F k i h l) in
+      let d = opening_digits (opens tab k i) k (omega (arith, F.few_tasks)) in
+      let z = instance_is tab F k i (opens tab k i) h (omega arith) (omega (arith, F.window k h)) in
+      let w : opens tab k i < hyper tab = omega (arith, F.window k h, closes_le tab F k i h l) in
       rw e (record {
         task = rw d.1 h;
         tick = rw d.2 (omega arith);
-        opens-at = λ q. rw (d.1, d.2, z) (refl, w);
-        closes_at = λ q. absurd (not-both d.0 q);
+        opens_at_lem = λ q. rw (d.1, d.2, z) (refl, w);
+        closes_at = λ q. absurd (not_both d.0 q);
       })
   known n (k, i, h, l, inr e) =
       let F = I.given.fits in
-      let d = closing-digits (closes tab k i) k (omega (arith, F.few-tasks)) in
+      let d = closing_digits (closes tab k i) k (omega (arith, F.few_tasks)) in
       rw e (record {
         task = rw d.1 h;
-        tick = rw d.2 (closes-le tab F k i h l);
-        opens-at = λ q. absurd (not-both q d.0);
+        tick = rw d.2 (closes_le tab F k i h l);
+        opens_at_lem = λ q. absurd (not_both q d.0);
         closes_at = λ q. rw (d.1, d.2) (at (closes tab k i) refl);
       })
     where
       at : (c : ℕ) → closes tab k i ≡ c → (t : ℕ) × (c ≡ suc t) × (closes tab k (instance tab k t) ≡ suc t) × (t < hyper tab)
       at zero q = absurd (omega (arith, I.given.fits.window k h))
       at (suc t) q =
-          let z = instance-is tab I.given.fits k i t h (omega (arith, I.given.fits.window k h)) (omega arith) in
-          (t, refl, rw z q, omega (arith, closes-le tab I.given.fits k i h l))
+          let z = instance_is tab I.given.fits k i t h (omega (arith, I.given.fits.window k h)) (omega arith) in
+          (t, refl, rw z q, omega (arith, closes_le tab I.given.fits k i h l))
 
-  opening-is : (k t : ℕ) (p : Pass) → k < tab.tasks → opens tab k (instance tab k t) ≡ t → wroteOf bytes (read_of bytes p (turn k t)) (turn k t) ≡ opened tab s (readerOpens tab E s) (writerOpens tab E s) p k t
-  unfolding read_of wroteOf scheduleIn writesIn readsIn
-  opening-is k t p h o =
+  opening_is : (k t : ℕ) (p : Pass) → k < tab.tasks → opens tab k (instance tab k t) ≡ t → wrote_of bytes (read_of bytes p (turn k t)) (turn k t) ≡ opened tab s (reader_opens tab E s) (writer_opens tab E s) p k t
+  unfolding read_of wrote_of schedule_in writes_in reads_in
+  opening_is k t p h o =
       let c : t - tab.start k + tab.end k ≡ closes tab k (instance tab k t) = omega arith in
-      rw (I.placed.readers k h, I.placed.writers k h, ← reader-step tab s k (instance tab k t), ← writer-step tab s k (instance tab k t), c)
+      rw (I.placed.readers k h, I.placed.writers k h, ← reader_step tab s k (instance tab k t), ← writer_step tab s k (instance tab k t), c)
 
-  closing-is : (k t : ℕ) (p : Pass) → k < tab.tasks → closedOf bytes p (turn k (suc t)) ≡ closed tab s (writerCloses tab E s) p k t
-  unfolding closedOf scheduleIn writesIn
-  closing-is k t p h =
+  closing_is : (k t : ℕ) (p : Pass) → k < tab.tasks → closed_of bytes p (turn k (suc t)) ≡ closed tab s (writer_closes tab E s) p k t
+  unfolding closed_of schedule_in writes_in
+  closing_is k t p h =
       let e : suc t - 1 ≡ t = omega arith in
-      rw (e, I.placed.writers k h, ← writer-step tab s k (instance tab k t))
+      rw (e, I.placed.writers k h, ← writer_step tab s k (instance tab k t))
 
-  pub handled-is : (n : ℕ) (p : Pass) → IsEvent tab n → handledOf bytes n p (turnAt n) ≡ handled tab E s p n
-  unfolding acted handledOf
-  handled-is n p x =
+  pub handled_is : (n : ℕ) (p : Pass) → IsEvent tab n → handled_of bytes n p (turn_at n) ≡ handled tab E s p n
+  unfolding acted handled_of
+  handled_is n p x =
       let K = known n x in
       rw (turn_is n)
-      (split (isOpening n)
-      (λ q. rw q (opening-is (taskIn n) (tickIn n) p K.task (K.opens-at q).0))
+      (split (is_opening n)
+      (λ q. rw q (opening_is (task_in n) (tick_in n) p K.task (K.opens_at_lem q).0))
       (λ q.
       let (t, e, c, l) = K.closes_at q in
       let f : suc t - 1 ≡ t = omega arith in
-      rw (q, e, f) (closing-is (taskIn n) t p K.task)))
+      rw (q, e, f) (closing_is (task_in n) t p K.task)))
 
   -- the element of a writer's instance is there, and is an element
-  writes-in : (k t : ℕ) → k < tab.tasks → t < hyper tab → may_write (cell_at grid k s) ≡ true → Inside bytes (get_or places.writers k 0) (instance tab k t) × (elementAt bytes (get_or places.writers k 0) (instance tab k t) < mostElements)
-  unfolding scheduleIn writesIn
-  writes-in k t h l w =
-      let i = instance-lt tab I.given.fits k t h l in
+  writes_in_lem : (k t : ℕ) → k < tab.tasks → t < hyper tab → may_write (cell_at grid k s) ≡ true → Inside bytes (get_or places.writers k 0) (instance tab k t) × (element_at bytes (get_or places.writers k 0) (instance tab k t) < most_elements)
+  unfolding schedule_in writes_in
+  writes_in_lem k t h l w =
+      let i = instance_lt tab I.given.fits k t h l in
       let e = I.placed.writers k h in
-      let f = writer-step tab s k (instance tab k t) in
-      (omega (arith, writer-inside tab s k (instance tab k t) h w i, I.whole), rw (e, ← f) (I.low k (instance tab k t) h (holds w) i))
+      let f = writer_step tab s k (instance tab k t) in
+      (omega (arith, writer_inside tab s k (instance tab k t) h w i, I.whole), rw (e, ← f) (I.low k (instance tab k t) h (holds w) i))
 
-  reads_in : (k t : ℕ) → k < tab.tasks → t < hyper tab → may_read (cell_at grid k s) ≡ true → Inside bytes (get_or places.readers k 0) (instance tab k t)
-  unfolding readsIn
-  reads_in k t h l w =
+  reads_in_lem : (k t : ℕ) → k < tab.tasks → t < hyper tab → may_read (cell_at grid k s) ≡ true → Inside bytes (get_or places.readers k 0) (instance tab k t)
+  unfolding reads_in
+  reads_in_lem k t h l w =
       let e = I.placed.readers k h in
-      let f = reader-step tab s k (instance tab k t) in
-      omega (arith, reader-inside tab s k (instance tab k t) h w (instance-lt tab I.given.fits k t h l), I.whole)
+      let f = reader_step tab s k (instance tab k t) in
+      omega (arith, reader_inside tab s k (instance tab k t) h w (instance_lt tab I.given.fits k t h l), I.whole)
 
-  pub handles : (n : ℕ) → IsEvent tab n → Handles bytes n (turnAt n)
+  pub handles : (n : ℕ) → IsEvent tab n → Handles bytes n (turn_at n)
   handles n x =
       let K = known n x in
       let F = I.given.fits in
       rw (turn_is n) (record {
-        fits = record { window = F.window (taskIn n) K.task; within = F.within (taskIn n) K.task; short = F.short (taskIn n) K.task; early = omega (arith, K.tick, F.hyper-short) };
-        opens = λ q. let o = K.opens-at q in ((λ r. (omega (arith, o.0), reads_in (taskIn n) (tickIn n) K.task o.1 r)), λ r. writes-in (taskIn n) (tickIn n) K.task o.1 r);
+        fits = record { window = F.window (task_in n) K.task; within = F.within (task_in n) K.task; short = F.short (task_in n) K.task; early = omega (arith, K.tick, F.hyper_short) };
+        opens = λ q. let o = K.opens_at_lem q in ((λ r. (omega (arith, o.0), reads_in_lem (task_in n) (tick_in n) K.task o.1 r)), λ r. writes_in_lem (task_in n) (tick_in n) K.task o.1 r);
         closes = λ q. let (t, e, c, l) = K.closes_at q in
-            let f : tickIn n - 1 ≡ t = omega arith in
-            (omega arith, λ r. rw f (writes-in (taskIn n) t K.task l r));
+            let f : tick_in n - 1 ≡ t = omega arith in
+            (omega arith, λ r. rw f (writes_in_lem (task_in n) t K.task l r));
       })
 
   -- the value that stands has an element
-  pub current-low : (n : ℕ) (p : Pass) → IsEvent tab n → p.current < mostElements → (handled tab E s p n).current < mostElements
-  unfolding handledOf
-  current-low n p x h =
+  pub current_low : (n : ℕ) (p : Pass) → IsEvent tab n → p.current < most_elements → (handled tab E s p n).current < most_elements
+  unfolding handled_of
+  current_low n p x h =
       let H = handles n x in
-      rw (← handled-is n p x) (split (isOpening n)
-      (λ q. rw q (rw (opening-current bytes p (turnAt n)) h))
-      (λ q. rw q (closing-current bytes p (turnAt n) h (H.closes q).1)))
+      rw (← handled_is n p x) (split (is_opening n)
+      (λ q. rw q (rw (opening_current bytes p (turn_at n)) h))
+      (λ q. rw q (closing_current bytes p (turn_at n) h (H.closes q).1)))
 
   -- what is nothing for the signal changes nothing
-  pub skipped : (n : ℕ) (p : Pass) (acts : List ℕ) → IsEvent tab n → AreActs grid s tasks.count acts → get_or acts (n % (2 * mostTasks)) 0 ≡ 0 → handled tab E s p n ≡ p
-  unfolding handledOf read_of wroteOf closedOf
+  pub skipped : (n : ℕ) (p : Pass) (acts : List ℕ) → IsEvent tab n → AreActs grid s tasks.count acts → get_or acts (n % (2 * most_tasks)) 0 ≡ 0 → handled tab E s p n ≡ p
+  unfolding handled_of read_of wrote_of closed_of
   skipped n p acts x A e =
       let K = known n x in
       let two : 0 < 2 = omega arith in
-      let m : n % (2 * mostTasks) ≡ n / mostTasks % 2 * mostTasks + taskIn n = mod-mul n {m = 2} {c = mostTasks} (omega arith) (omega arith) in
-      sym (handled-is n p x) ∙ split (isOpening n)
+      let m : n % (2 * most_tasks) ≡ n / most_tasks % 2 * most_tasks + task_in n = mod-mul n {m = 2} {c = most_tasks} (omega arith) (omega arith) in
+      sym (handled_is n p x) ∙ split (is_opening n)
       (λ q.
-      let z : n % (2 * mostTasks) ≡ mostTasks + taskIn n = omega (arith, eqb-true (n / mostTasks % 2) 1 q) in
-      let c : cell_at grid (taskIn n) s ≡ 0 = sym (A.opening (taskIn n) K.task) ∙ ap (λ y. get_or acts y 0) (sym z) ∙ e in
+      let z : n % (2 * most_tasks) ≡ most_tasks + task_in n = omega (arith, eqb-true (n / most_tasks % 2) 1 q) in
+      let c : cell_at grid (task_in n) s ≡ 0 = sym (A.opening (task_in n) K.task) ∙ ap (λ y. get_or acts y 0) (sym z) ∙ e in
       rw (q, c))
       (λ q.
-      let z : n % (2 * mostTasks) ≡ taskIn n = omega (arith, eqb-false (n / mostTasks % 2) 1 q, mod-lt (n / mostTasks) two) in
-      let c : cell_at grid (taskIn n) s / 2 ≡ 0 = sym (A.closing (taskIn n) K.task) ∙ ap (λ y. get_or acts y 0) (sym z) ∙ e in
+      let z : n % (2 * most_tasks) ≡ task_in n = omega (arith, eqb-false (n / most_tasks % 2) 1 q, mod-lt (n / most_tasks) two) in
+      let c : cell_at grid (task_in n) s / 2 ≡ 0 = sym (A.closing (task_in n) K.task) ∙ ap (λ y. get_or acts y 0) (sym z) ∙ e in
       rw (q, c))
 
   -- ---- one after the other
 
-  same-events : events (tasksTable tasks) ≡ events tab
-  same-events = sym (events-alone tasks noSignals grid)
+  same_events : events (tasks_table tasks) ≡ events tab
+  same_events = sym (events_alone tasks no_signals grid)
 
-  event-at : (n : ℕ) → n < count → (n < length (events tab)) × (get_or list n 0 ≡ get_or (events tab) n 0)
-  event-at n h =
-      let c : count ≡ length (events tab) = I.given.counted ∙ ap length same-events in
+  event_at : (n : ℕ) → n < count → (n < length (events tab)) × (get_or list n 0 ≡ get_or (events tab) n 0)
+  event_at n h =
+      let c : count ≡ length (events tab) = I.given.counted ∙ ap length same_events in
       let l : n < length (events tab) = omega arith in
-      (l, rw (I.given.listed, same-events) (get_or-append (events tab) _ 0 n l))
+      (l, rw (I.given.listed, same_events) (get_or-append (events tab) _ 0 n l))
 
-  pub is-event : (n : ℕ) → n < count → IsEvent tab (get_or list n 0)
-  is-event n h = let e = event-at n h in rw e.1 (all-at (IsEvent tab) 0 (events tab) (events-all tab I.given.fits) n e.0)
+  pub is_event : (n : ℕ) → n < count → IsEvent tab (get_or list n 0)
+  is_event n h = let e = event_at n h in rw e.1 (all_at (IsEvent tab) 0 (events tab) (events_all tab I.given.fits) n e.0)
 
-  pub pass-turn : (n : ℕ) (p : Pass) → n < count → through (handled tab E s) p (drop n (events tab)) ≡ through (handled tab E s) (handled tab E s p (get_or list n 0)) (drop (n + 1) (events tab))
+  pub pass_turn : (n : ℕ) (p : Pass) → n < count → through (handled tab E s) p (drop n (events tab)) ≡ through (handled tab E s) (handled tab E s p (get_or list n 0)) (drop (n + 1) (events tab))
   unfolding through
-  pass-turn n p h = let e = event-at n h in rw (e.1, add-one n, drop-cons (events tab) n 0 e.0)
+  pass_turn n p h = let e = event_at n h in rw (e.1, add-one n, drop-cons (events tab) n 0 e.0)
 
-  pub pass-ends : (n : ℕ) (p : Pass) → n ≡ count → through (handled tab E s) p (drop n (events tab)) ≡ p
+  pub pass_ends : (n : ℕ) (p : Pass) → n ≡ count → through (handled tab E s) p (drop n (events tab)) ≡ p
   unfolding through
-  pass-ends n p h = rw (h ∙ I.given.counted ∙ ap length same-events, drop-length (events tab))
+  pass_ends n p h = rw (h ∙ I.given.counted ∙ ap length same_events, drop-length (events tab))
 
   -- one turn of the loop
   abbrev pub Left : ℕ → List ℕ → Standing → Type 0
-  Left n held p = (p.current < mostElements) × (through (handled tab E s) (passOf held p) (drop n (events tab)) ≡ sweep tab E s)
+  Left n held p = (p.current < most_elements) × (through (handled tab E s) (pass_of held p) (drop n (events tab)) ≡ sweep tab E s)
 
-  pub pass-starts : Left 0 (set (noneHeld mostElements) 0 never) (record { right = true; current = 0; reach = 0 })
+  pub pass_starts : Left 0 (set (none_held most_elements) 0 never) (record { right = true; current = 0; reach = 0 })
   unfolding sweep
-  pass-starts = (omega arith, refl)
+  pass_starts = (omega arith, refl)
 
-  pub pass-next : (n : ℕ) (held kept acts : List ℕ) (p r : Standing) → n < count → AreActs grid s tasks.count acts → Left n held p
-      → (passOf kept r ≡ handledOf bytes (get_or list n 0) (passOf held p) (turnAt (get_or list n 0))) ⊎ ((get_or acts (get_or list n 0 % (2 * mostTasks)) 0 ≡ 0) × (passOf kept r ≡ passOf held p))
+  pub pass_next : (n : ℕ) (held kept acts : List ℕ) (p r : Standing) → n < count → AreActs grid s tasks.count acts → Left n held p
+      → (pass_of kept r ≡ handled_of bytes (get_or list n 0) (pass_of held p) (turn_at (get_or list n 0))) ⊎ ((get_or acts (get_or list n 0 % (2 * most_tasks)) 0 ≡ 0) × (pass_of kept r ≡ pass_of held p))
       → Left (n + 1) kept r
-  pass-next n held kept acts p r h A l c =
-      let x = is-event n h in
-      let e : passOf kept r ≡ handled tab E s (passOf held p) (get_or list n 0) =
-      ⊎_elim (λ q. q ∙ handled-is (get_or list n 0) (passOf held p) x) (λ q. q.1 ∙ sym (skipped (get_or list n 0) (passOf held p) acts x A q.0)) c in (
-        omega (arith, ap (λ (q : Pass). q.current) e, current-low (get_or list n 0) (passOf held p) x l.0),
-        ap (λ q. through (handled tab E s) q (drop (n + 1) (events tab))) e ∙ sym (pass-turn n (passOf held p) h) ∙ l.1,
+  pass_next n held kept acts p r h A l c =
+      let x = is_event n h in
+      let e : pass_of kept r ≡ handled tab E s (pass_of held p) (get_or list n 0) =
+      ⊎_elim (λ q. q ∙ handled_is (get_or list n 0) (pass_of held p) x) (λ q. q.1 ∙ sym (skipped (get_or list n 0) (pass_of held p) acts x A q.0)) c in (
+        omega (arith, ap (λ (q : Pass). q.current) e, current_low (get_or list n 0) (pass_of held p) x l.0),
+        ap (λ q. through (handled tab E s) q (drop (n + 1) (events tab))) e ∙ sym (pass_turn n (pass_of held p) h) ∙ l.1,
       )
 
-  pub pass-right : (n : ℕ) (held : List ℕ) (p : Standing) → n ≡ count → Left n held p → p.right ≡ (sweep tab E s).right
-  pass-right n held p h l = ap (λ (q : Pass). q.right) (sym (pass-ends n (passOf held p) h) ∙ l.1)
+  pub pass_right : (n : ℕ) (held : List ℕ) (p : Standing) → n ≡ count → Left n held p → p.right ≡ (sweep tab E s).right
+  pass_right n held p h l = ap (λ (q : Pass). q.right) (sym (pass_ends n (pass_of held p) h) ∙ l.1)
 
-  pub count-within : count ≤ mostEvents
-  count-within = omega (arith, I.given.counted, ap length same-events, few-events tab I.given.fits mostTasks (mostTasks + hyper tab * (2 * mostTasks)) (events tab) (events-up tab I.given.fits) (events-all tab I.given.fits), I.given.fits.few-instances)
+  pub count_within : count ≤ most_events
+  count_within = omega (arith, I.given.counted, ap length same_events, few_events tab I.given.fits most_tasks (most_tasks + hyper tab * (2 * most_tasks)) (events tab) (events_up tab I.given.fits) (events_all tab I.given.fits), I.given.fits.few_instances)

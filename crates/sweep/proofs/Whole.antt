@@ -7,15 +7,15 @@ use native.Mathlib.Numerals.{add-one}
 use native.Mathlib.Omega.{arith}
 use borrow.Author.Tests.{not-true, not-false}
 use Rattle.rules.specs.Words.{total, every}
-use Rattle.rules.specs.Bytes.{size_of, scheduleIn}
+use Rattle.rules.specs.Bytes.{size_of, schedule_in}
 use Rattle.rules.specs.Reading.{Grid}
 use Rattle.rules.specs.declared.Tasks.{Tasks}
 use Rattle.theory.specs.Sweep.{sweep}
-use Rattle.theory.proofs.Tests.{and_is, no_test, not-both}
-use Rattle.theory.proofs.Check.{every-at}
-use Rattle.sweep.specs.Pass.{gridTable, longestBytes, ArePlaces, Inspects, allSwept, InspectsAll}
+use Rattle.theory.proofs.Tests.{and_is, no_test, not_both}
+use Rattle.theory.proofs.Check.{every_at}
+use Rattle.sweep.specs.Pass.{grid_table, longest_bytes, ArePlaces, Inspects, all_swept, InspectsAll}
 use Rattle.sweep.specs.declared.Places.{Places}
-use Rattle.sweep.proofs.Inspected.{total-within}
+use Rattle.sweep.proofs.Inspected.{total_within}
 
 module _ (tasks : Tasks) (grid : Grid) (h signals : ℕ) (list : List ℕ) (count : ℕ) (bytes : List ℕ) (A : InspectsAll tasks grid h signals list count bytes) where
   -- what is known of all is known of one
@@ -25,24 +25,24 @@ module _ (tasks : Tasks) (grid : Grid) (h signals : ℕ) (list : List ℕ) (coun
     given = A.given;
     signal = omega (arith, A.few);
     placed = L;
-    whole = omega (arith, A.whole, total-within (size_of (gridTable tasks grid)) signals s l);
+    whole = omega (arith, A.whole, total_within (size_of (grid_table tasks grid)) signals s l);
     low = A.low s l;
   }
 
-  pub start-low : (s : ℕ) → s < signals → total (size_of (gridTable tasks grid)) s ≤ longestBytes
-  start-low s l = omega (arith, A.short, total-within (size_of (gridTable tasks grid)) signals s l)
+  pub start_low : (s : ℕ) → s < signals → total (size_of (grid_table tasks grid)) s ≤ longest_bytes
+  start_low s l = omega (arith, A.short, total_within (size_of (grid_table tasks grid)) signals s l)
 
 module _ (tasks : Tasks) (grid : Grid) (bytes : List ℕ) where
-  pub swept_none : allSwept tasks grid bytes 0 ≡ true
-  unfolding allSwept every
+  pub swept_none : all_swept tasks grid bytes 0 ≡ true
+  unfolding all_swept every
   swept_none = refl
 
   -- what the pass over signal s said
-  module _ (s : ℕ) (r : Bool) (e : r ≡ (sweep (gridTable tasks grid) (scheduleIn (gridTable tasks grid) bytes) s).right) where
-    pub swept-more : not r ≡ false → allSwept tasks grid bytes s ≡ true → allSwept tasks grid bytes (s + 1) ≡ true
-    unfolding allSwept every
-    swept-more q a = rw (add-one s) (and_is (sym e ∙ not-false r q) a)
+  module _ (s : ℕ) (r : Bool) (e : r ≡ (sweep (grid_table tasks grid) (schedule_in (grid_table tasks grid) bytes) s).right) where
+    pub swept_more : not r ≡ false → all_swept tasks grid bytes s ≡ true → all_swept tasks grid bytes (s + 1) ≡ true
+    unfolding all_swept every
+    swept_more q a = rw (add-one s) (and_is (sym e ∙ not-false r q) a)
 
-    pub swept-fails : not r ≡ true → (signals : ℕ) → s < signals → false ≡ allSwept tasks grid bytes signals
-    unfolding allSwept
-    swept-fails q signals l = sym (no_test _ (λ a. not-both (every-at signals _ a s l) (sym e ∙ not-true r q)))
+    pub swept_fails : not r ≡ true → (signals : ℕ) → s < signals → false ≡ all_swept tasks grid bytes signals
+    unfolding all_swept
+    swept_fails q signals l = sym (no_test _ (λ a. not_both (every_at signals _ a s l) (sym e ∙ not-true r q)))

@@ -1,10 +1,10 @@
 // The check of one signal's elements in one pass over the openings and closings of the hyper-period.
 ghost use Rattle.std.specs.Prelude.{suc, ◌*◌, ◌-◌, ◌<◌, ◌≤◌, ◌≡◌};
-ghost use Rattle.sweep.specs.Pass.{passOf, elementAt, Inside, TurnFits, Reads, IsRead, Writes, wroteOf, closedOf, Handles, handledOf, gridTable, Inspects, recordsOf, farthest, longestBytes, IsRow, ArePlaces, InspectsAll, allSwept, AreActs};
+ghost use Rattle.sweep.specs.Pass.{pass_of, element_at, Inside, TurnFits, Reads, IsRead, Writes, wrote_of, closed_of, Handles, handled_of, grid_table, Inspects, records_of, farthest, longest_bytes, IsRow, ArePlaces, InspectsAll, all_swept, AreActs};
 ghost use Rattle.rules.specs.Words.{total};
 ghost use Rattle.rules.specs.Windows.{hyper};
-ghost use Rattle.rules.specs.Table.{mostTasks, mostSignals, mostElements, Fits};
-ghost use Rattle.rules.specs.Bytes.{size_of, scheduleIn};
+ghost use Rattle.rules.specs.Table.{most_tasks, most_signals, most_elements, Fits};
+ghost use Rattle.rules.specs.Bytes.{size_of, schedule_in};
 ghost use Rattle.theory.specs.Sweep.{sweep};
 
 use events::{KIND, MOST_EVENTS, TICK};
@@ -60,7 +60,7 @@ pub struct Turn {
 // The element of instance i.
 pub fn element_at(schedule: &[u8], first: usize, i: u32) -> usize
     requires { Inside schedule.now first i }
-    ensures { result ≡ elementAt schedule.now first i }
+    ensures { result ≡ element_at schedule.now first i }
 {
     let at = first + USE_BYTES * i as usize;
     wide(schedule[at])
@@ -86,7 +86,7 @@ fn read_at(schedule: &[u8], p: Standing, x: Turn) -> Standing
 // A writer opens.
 fn write_at(held: &mut [u32; MOST_ELEMENTS], schedule: &[u8], p: Standing, x: Turn) -> Standing
     requires { TurnFits x × Writes schedule.now x x.tick }
-    ensures { passOf held.new result ≡ wroteOf schedule.now (passOf held.old p) x }
+    ensures { pass_of held.new result ≡ wrote_of schedule.now (pass_of held.old p) x }
 {
     if x.cell / WRITE % 2 != 1 {
         return p;
@@ -104,8 +104,8 @@ fn write_at(held: &mut [u32; MOST_ELEMENTS], schedule: &[u8], p: Standing, x: Tu
 
 // A writer publishes.
 fn publish_at(held: &mut [u32; MOST_ELEMENTS], schedule: &[u8], p: Standing, x: Turn) -> Standing
-    requires { TurnFits x × (1 ≤ x.tick) × Writes schedule.now x (x.tick - 1) × (p.current < mostElements) }
-    ensures { passOf held.new result ≡ closedOf schedule.now (passOf held.old p) x }
+    requires { TurnFits x × (1 ≤ x.tick) × Writes schedule.now x (x.tick - 1) × (p.current < most_elements) }
+    ensures { pass_of held.new result ≡ closed_of schedule.now (pass_of held.old p) x }
 {
     if x.cell / WRITE % 2 != 1 {
         return p;
@@ -129,8 +129,8 @@ fn handle(
     event: u32,
     x: Turn,
 ) -> Standing
-    requires { Handles schedule.now event x × (p.current < mostElements) }
-    ensures { passOf held.new result ≡ handledOf schedule.now event (passOf held.old p) x }
+    requires { Handles schedule.now event x × (p.current < most_elements) }
+    ensures { pass_of held.new result ≡ handled_of schedule.now event (pass_of held.old p) x }
 {
     if event / KIND % 2 == 1 {
         let q = read_at(schedule, p, x);
@@ -142,7 +142,7 @@ fn handle(
 
 // For each task what its closing, and its opening, is for the signal: 0 where it is nothing.
 fn acts_of(count: usize, grid: &[[u8; MOST_SIGNALS]; MOST_TASKS], s: usize) -> [u8; KINDS]
-    requires { (count ≤ mostTasks) × (s < mostSignals) }
+    requires { (count ≤ most_tasks) × (s < most_signals) }
     ensures { AreActs grid.now s count result }
 {
     let mut acts: [u8; KINDS] = [0; KINDS];
@@ -167,7 +167,7 @@ pub fn signal_passes<'a>(
     schedule: &'a [u8],
 ) -> bool
     requires { Inspects tasks grid.now s events.now count places schedule.now }
-    ensures { result ≡ (sweep (gridTable tasks grid.now) (scheduleIn (gridTable tasks grid.now) schedule.now) s).right }
+    ensures { result ≡ (sweep (grid_table tasks grid.now) (schedule_in (grid_table tasks grid.now) schedule.now) s).right }
 {
     let acts = acts_of(tasks.count, grid, s);
     let mut held: [u32; MOST_ELEMENTS] = [0; MOST_ELEMENTS];
@@ -202,7 +202,7 @@ pub fn signal_passes<'a>(
 // The bytes of the records of one task.
 fn records_of(cell: u8, right: u8, instances: u32) -> usize
     requires { 1 ≤ right }
-    ensures { result ≡ 7 * recordsOf cell right instances }
+    ensures { result ≡ 7 * records_of cell right instances }
 {
     if cell / right % 2 == 1 {
         return USE_BYTES * instances as usize;
@@ -219,7 +219,7 @@ fn row_from(
     right: u8,
     from: usize,
 ) -> Row
-    requires { Fits (gridTable tasks grid.now) × (h ≡ hyper (gridTable tasks grid.now)) × (s < mostSignals) × (1 ≤ right) × (from ≤ farthest) }
+    requires { Fits (grid_table tasks grid.now) × (h ≡ hyper (grid_table tasks grid.now)) × (s < most_signals) × (1 ≤ right) × (from ≤ farthest) }
     ensures { IsRow tasks grid.now s right from tasks.count result.at result.end }
 {
     let mut at: [usize; MOST_TASKS] = [0; MOST_TASKS];
@@ -241,8 +241,8 @@ pub fn places_at(
     s: usize,
     start: usize,
 ) -> Located
-    requires { Fits (gridTable tasks grid.now) × (h ≡ hyper (gridTable tasks grid.now)) × (s < mostSignals) × (start ≡ total (size_of (gridTable tasks grid.now)) s) × (start ≤ longestBytes) }
-    ensures { ArePlaces tasks grid.now s result.places × (result.end ≡ total (size_of (gridTable tasks grid.now)) (suc s)) }
+    requires { Fits (grid_table tasks grid.now) × (h ≡ hyper (grid_table tasks grid.now)) × (s < most_signals) × (start ≡ total (size_of (grid_table tasks grid.now)) s) × (start ≤ longest_bytes) }
+    ensures { ArePlaces tasks grid.now s result.places × (result.end ≡ total (size_of (grid_table tasks grid.now)) (suc s)) }
 {
     let writers = row_from(tasks, h, grid, s, WRITE, start + BF_BYTES);
     let readers = row_from(tasks, h, grid, s, READ, writers.end);
@@ -269,7 +269,7 @@ pub fn signals_pass<'a>(
     schedule: &'a [u8],
 ) -> bool
     requires { InspectsAll tasks grid.now h signals events.now count schedule.now }
-    ensures { result ≡ allSwept tasks grid.now schedule.now signals }
+    ensures { result ≡ all_swept tasks grid.now schedule.now signals }
 {
     let mut start: usize = 0;
     let mut s: usize = 0;

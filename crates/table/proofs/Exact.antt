@@ -5,38 +5,38 @@ use mathlib.Core.List.{List}
 use Prim.Native.Nat.{ℕ}
 use lib.Dec.{eqb}
 use Rattle.rules.specs.Windows.{Table, hyper}
-use Rattle.rules.specs.Numbers.{Told, told, allDone}
+use Rattle.rules.specs.Numbers.{Told, told, all_done}
 use Rattle.rules.specs.Records.{End}
-use Rattle.rules.specs.Reading.{TableSaid, table_of, gridIn, tableIn, readSays, verdict, hyperRead, tableRead}
-use Rattle.theory.proofs.Proved.{whatever-is-read-keeps}
-use Rattle.fields.proofs.Told.{told-exact}
-use Rattle.table.specs.Said.{tableSaid}
+use Rattle.rules.specs.Reading.{TableSaid, table_of, grid_in, table_in, read_says, verdict, hyper_read, table_read}
+use Rattle.theory.proofs.Proved.{whatever_is_read_keeps}
+use Rattle.fields.proofs.Told.{told_exact}
+use Rattle.table.specs.Said.{table_said}
 use Rattle.table.specs.declared.reading.TableRead.{TableRead}
 
-pub table-exact : (a b : TableRead) → tableSaid a ≡ tableSaid b → a ≡ b
-table-exact a b e =
+pub table_exact : (a b : TableRead) → table_said a ≡ table_said b → a ≡ b
+table_exact a b e =
     λ i. record {
-      answer = told-exact a.answer b.answer (ap (λ (t : TableSaid). t.answer) e) i;
+      answer = told_exact a.answer b.answer (ap (λ (t : TableSaid). t.answer) e) i;
       tasks = (e i).tasks;
       signals = (e i).signals;
       hyper = (e i).hyper;
     }
 
-pub answer-says : (bytes : List ℕ) (r : TableRead) → tableSaid r ≡ tableRead bytes → told r.answer ≡ readSays bytes
-unfolding tableRead
-answer-says bytes r e = ap (λ (t : TableSaid). t.answer) e
+pub answer_says : (bytes : List ℕ) (r : TableRead) → table_said r ≡ table_read bytes → told r.answer ≡ read_says bytes
+unfolding table_read
+answer_says bytes r e = ap (λ (t : TableSaid). t.answer) e
 
 -- the table that was read
-pub table_is : (bytes : List ℕ) (r : TableRead) → tableSaid r ≡ tableRead bytes → table_of r.tasks r.signals (gridIn bytes) ≡ tableIn bytes
-unfolding tableRead tableIn
-table_is bytes r e = ap (λ (t : TableSaid). table_of t.tasks t.signals (gridIn bytes)) e
+pub table_is : (bytes : List ℕ) (r : TableRead) → table_said r ≡ table_read bytes → table_of r.tasks r.signals (grid_in bytes) ≡ table_in bytes
+unfolding table_read table_in
+table_is bytes r e = ap (λ (t : TableSaid). table_of t.tasks t.signals (grid_in bytes)) e
 
 -- and its hyper-period
-pub hyper-read : (bytes : List ℕ) (r : TableRead) → tableSaid r ≡ tableRead bytes → (readSays bytes).number ≡ allDone → r.hyper ≡ hyper (tableIn bytes)
-unfolding tableRead readSays verdict hyperRead
-hyper-read bytes r e z =
-    let (p, h) = (whatever-is-read-keeps bytes).whole z in
-    ap (λ (t : TableSaid). t.hyper) e ∙ ap (hyperRead (tableIn bytes)) h ∙ done-hyper (tableIn bytes) p (ap (λ (t : Told). t.number) (sym (ap (verdict (tableIn bytes)) h)) ∙ z)
+pub hyper_read_lem : (bytes : List ℕ) (r : TableRead) → table_said r ≡ table_read bytes → (read_says bytes).number ≡ all_done → r.hyper ≡ hyper (table_in bytes)
+unfolding table_read read_says verdict hyper_read
+hyper_read_lem bytes r e z =
+    let (p, h) = (whatever_is_read_keeps bytes).whole z in
+    ap (λ (t : TableSaid). t.hyper) e ∙ ap (hyper_read (table_in bytes)) h ∙ done_hyper (table_in bytes) p (ap (λ (t : Told). t.number) (sym (ap (verdict (table_in bytes)) h)) ∙ z)
   where
-    done-hyper : (tab : Table) (p : ℕ) → (verdict tab (End.at p)).number ≡ allDone → hyperRead tab (End.at p) ≡ hyper tab
-    done-hyper tab p q = ap (λ (n : ℕ). cond (eqb n allDone) (hyper tab) 0) q
+    done_hyper : (tab : Table) (p : ℕ) → (verdict tab (End.at p)).number ≡ all_done → hyper_read tab (End.at p) ≡ hyper tab
+    done_hyper tab p q = ap (λ (n : ℕ). cond (eqb n all_done) (hyper tab) 0) q

@@ -8,107 +8,107 @@ use lib.Dec.{eqb, ltb}
 use borrow.Author.Tests.{eq-eqb, ne_eqb, lt-ltb, le-ltb}
 use Rattle.rules.specs.Words.{total, lowest, when, maybe}
 use Rattle.rules.specs.Windows.{Table, hyper, instances}
-use Rattle.rules.specs.Table.{longest, mostInstances, mostUses, accessesOf, uses, single, everyWriter}
-use Rattle.rules.specs.Numbers.{Told, tell, allDone, noTask, longHyper, manyInstances, manyUses, twoPublish}
-use Rattle.rules.specs.Answers.{tableSays}
-use Rattle.rules.specs.Reading.{Grid, table_of, acceptedHyper}
+use Rattle.rules.specs.Table.{longest, most_instances, most_uses, accesses_of, uses, single, every_writer}
+use Rattle.rules.specs.Numbers.{Told, tell, all_done, no_task, long_hyper, many_instances, many_uses, two_publish}
+use Rattle.rules.specs.Answers.{table_says}
+use Rattle.rules.specs.Reading.{Grid, table_of, accepted_hyper}
 use Rattle.rules.specs.declared.Tasks.{Tasks}
 use Rattle.rules.specs.declared.Signals.{Signals}
 use Rattle.theory.proofs.Checked.{when_false}
 use Rattle.windows.specs.declared.Hyper.TheVariants.{Ticks, Above}
 use Rattle.windows.specs.Windowed.{AllWindowed}
-use Rattle.windows.specs.Forms.{hyperOf}
-use Rattle.windows.proofs.Periods.{IsHyper, hyper-is}
-use Rattle.table.specs.Forms.{timed, instancesIn, usesIn, firstClash}
-use Rattle.table.proofs.Clashes.{clash-some, clash-none}
+use Rattle.windows.specs.Forms.{hyper_of}
+use Rattle.windows.proofs.Periods.{IsHyper, hyper_is}
+use Rattle.table.specs.Forms.{timed, instances_in, uses_in, first_clash}
+use Rattle.table.proofs.Clashes.{clash_some, clash_none}
 
 -- the answers do not hang on the defaults
 module _ (tasks : Tasks) (signals : Signals) (grid : Grid) where
-  pub defaults-free : tableSays (table_of tasks signals grid) ≡ tableSays (timed tasks signals.count grid)
-  unfolding tableSays hyper uses accessesOf single everyWriter
-  defaults-free = refl
+  pub defaults_free : table_says (table_of tasks signals grid) ≡ table_says (timed tasks signals.count grid)
+  unfolding table_says hyper uses accesses_of single every_writer
+  defaults_free = refl
 
-  pub hyper-free : hyper (table_of tasks signals grid) ≡ hyper (timed tasks signals.count grid)
+  pub hyper_free : hyper (table_of tasks signals grid) ≡ hyper (timed tasks signals.count grid)
   unfolding hyper
-  hyper-free = refl
+  hyper_free = refl
 
-  pub accepted-free : acceptedHyper (table_of tasks signals grid) ≡ acceptedHyper (timed tasks signals.count grid)
-  accepted-free = rw (defaults-free, hyper-free) refl
+  pub accepted_free : accepted_hyper (table_of tasks signals grid) ≡ accepted_hyper (timed tasks signals.count grid)
+  accepted_free = rw (defaults_free, hyper_free) refl
 
 -- what is said of a table, with the hyper-period where that is `done`
 abbrev pub Said : Table → Told → ℕ → Type 0
-Said tab t h = (t ≡ tableSays tab) × (h ≡ acceptedHyper tab)
+Said tab t h = (t ≡ table_says tab) × (h ≡ accepted_hyper tab)
 
-judged : (tab : Table) (t : Told) → t ≡ tableSays tab → Said tab t (cond (eqb t.number allDone) (hyper tab) 0)
-judged tab t e = (e, ap (λ (x : Told). cond (eqb x.number allDone) (hyper tab) 0) e)
+judged : (tab : Table) (t : Told) → t ≡ table_says tab → Said tab t (cond (eqb t.number all_done) (hyper tab) 0)
+judged tab t e = (e, ap (λ (x : Told). cond (eqb x.number all_done) (hyper tab) 0) e)
 
 -- ---- 7 and 8
 
-pub says-no-task : (tab : Table) → tab.tasks ≡ 0 → Said tab (tell noTask 0) 0
-unfolding tableSays when
-says-no-task tab z = judged tab (tell noTask 0) (simp (eq-eqb tab.tasks 0 z))
+pub says_no_task : (tab : Table) → tab.tasks ≡ 0 → Said tab (tell no_task 0) 0
+unfolding table_says when
+says_no_task tab z = judged tab (tell no_task 0) (simp (eq-eqb tab.tasks 0 z))
 
-pub says-long : (tab : Table) → (tab.tasks ≡ 0 → ⊥) → longest < hyper tab → Said tab (tell longHyper 0) 0
-unfolding tableSays when
-says-long tab n l = judged tab (tell longHyper 0) (simp (ne_eqb tab.tasks 0 n, lt-ltb longest (hyper tab) l))
+pub says_long : (tab : Table) → (tab.tasks ≡ 0 → ⊥) → longest < hyper tab → Said tab (tell long_hyper 0) 0
+unfolding table_says when
+says_long tab n l = judged tab (tell long_hyper 0) (simp (ne_eqb tab.tasks 0 n, lt-ltb longest (hyper tab) l))
 
 -- ---- 9 to 11
 
 module _ (tab : Table) (n : 0 < tab.tasks) (h : hyper tab ≤ longest) where
   -- past 7 and 8
-  short : tableSays tab
-      ≡ when (ltb mostInstances (total (instances tab) tab.tasks)) (tell manyInstances 0)
-      (when (ltb mostUses (uses tab)) (tell manyUses 0)
-      (maybe (lowest (λ s. not (single tab s)) tab.signals) (tell allDone 0) (λ s. tell twoPublish s)))
-  unfolding tableSays
+  short : table_says tab
+      ≡ when (ltb most_instances (total (instances tab) tab.tasks)) (tell many_instances 0)
+      (when (ltb most_uses (uses tab)) (tell many_uses 0)
+      (maybe (lowest (λ s. not (single tab s)) tab.signals) (tell all_done 0) (λ s. tell two_publish s)))
+  unfolding table_says
   short = when_false (eqb tab.tasks 0) _ _ (ne_eqb tab.tasks 0 (λ z. omega arith)) ∙ when_false (ltb longest (hyper tab)) _ _ (le-ltb longest (hyper tab) h)
 
   -- and past 9 and 10
-  few : total (instances tab) tab.tasks ≤ mostInstances → uses tab ≤ mostUses
-      → tableSays tab ≡ maybe (lowest (λ s. not (single tab s)) tab.signals) (tell allDone 0) (λ s. tell twoPublish s)
+  few : total (instances tab) tab.tasks ≤ most_instances → uses tab ≤ most_uses
+      → table_says tab ≡ maybe (lowest (λ s. not (single tab s)) tab.signals) (tell all_done 0) (λ s. tell two_publish s)
   few i u =
-      short ∙ when_false (ltb mostInstances (total (instances tab) tab.tasks)) _ _ (le-ltb mostInstances (total (instances tab) tab.tasks) i)
-      ∙ when_false (ltb mostUses (uses tab)) _ _ (le-ltb mostUses (uses tab) u)
+      short ∙ when_false (ltb most_instances (total (instances tab) tab.tasks)) _ _ (le-ltb most_instances (total (instances tab) tab.tasks) i)
+      ∙ when_false (ltb most_uses (uses tab)) _ _ (le-ltb most_uses (uses tab) u)
 
 -- by what the code counted in the hyper-period h
-module _ (tasks : Tasks) (signals : ℕ) (grid : Grid) (w : AllWindowed tasks) (n : 0 < tasks.count) (h : ℕ) (l : h ≤ longest) (e : h ≡ hyper (timed tasks signals grid)) {a : ℕ} (i : a ≡ instancesIn tasks h tasks.count) where
+module _ (tasks : Tasks) (signals : ℕ) (grid : Grid) (w : AllWindowed tasks) (n : 0 < tasks.count) (h : ℕ) (l : h ≤ longest) (e : h ≡ hyper (timed tasks signals grid)) {a : ℕ} (i : a ≡ instances_in tasks h tasks.count) where
   abbrev tab : Table
   tab = timed tasks signals grid
 
-  instances-are : a ≡ total (instances tab) tasks.count
-  instances-are = i ∙ rw e refl
+  instances_are : a ≡ total (instances tab) tasks.count
+  instances_are = i ∙ rw e refl
 
-  pub says-instances : mostInstances < a → Said tab (tell manyInstances 0) 0
+  pub says_instances : most_instances < a → Said tab (tell many_instances 0) 0
   unfolding when
-  says-instances g =
-      judged tab (tell manyInstances 0)
-      (rw (short tab n (omega arith), lt-ltb mostInstances (total (instances tab) tasks.count) (omega (arith, instances-are))) refl)
+  says_instances g =
+      judged tab (tell many_instances 0)
+      (rw (short tab n (omega arith), lt-ltb most_instances (total (instances tab) tasks.count) (omega (arith, instances_are))) refl)
 
-  module _ (f : a ≤ mostInstances) {b : ℕ} (u : b ≡ usesIn tasks signals grid h tasks.count) where
-    uses-are : b ≡ uses tab
-    unfolding uses accessesOf
-    uses-are = u ∙ rw e refl
+  module _ (f : a ≤ most_instances) {b : ℕ} (u : b ≡ uses_in tasks signals grid h tasks.count) where
+    uses_are : b ≡ uses tab
+    unfolding uses accesses_of
+    uses_are = u ∙ rw e refl
 
-    pub says-uses : mostUses < b → Said tab (tell manyUses 0) 0
+    pub says_uses : most_uses < b → Said tab (tell many_uses 0) 0
     unfolding when
-    says-uses g =
-        judged tab (tell manyUses 0)
-        (rw (short tab n (omega arith), le-ltb mostInstances (total (instances tab) tasks.count) (omega (arith, instances-are)), lt-ltb mostUses (uses tab) (omega (arith, uses-are))) refl)
+    says_uses g =
+        judged tab (tell many_uses 0)
+        (rw (short tab n (omega arith), le-ltb most_instances (total (instances tab) tasks.count) (omega (arith, instances_are)), lt-ltb most_uses (uses tab) (omega (arith, uses_are))) refl)
 
-    module _ (v : b ≤ mostUses) {s : ℕ} (c : s ≡ firstClash tasks signals grid) where
-      found : tableSays tab ≡ maybe (lowest (λ s. not (single tab s)) signals) (tell allDone 0) (λ s. tell twoPublish s)
-      found = few tab n (omega arith) (omega (arith, instances-are)) (omega (arith, uses-are))
+    module _ (v : b ≤ most_uses) {s : ℕ} (c : s ≡ first_clash tasks signals grid) where
+      found : table_says tab ≡ maybe (lowest (λ s. not (single tab s)) signals) (tell all_done 0) (λ s. tell two_publish s)
+      found = few tab n (omega arith) (omega (arith, instances_are)) (omega (arith, uses_are))
 
-      pub says-clash : s < signals → Said tab (tell twoPublish s) 0
-      says-clash g = judged tab (tell twoPublish s) (rw (found, clash-some tasks signals grid w s c g) refl)
+      pub says_clash : s < signals → Said tab (tell two_publish s) 0
+      says_clash g = judged tab (tell two_publish s) (rw (found, clash_some tasks signals grid w s c g) refl)
 
-      pub says-done : signals ≤ s → Said tab (tell allDone 0) h
-      says-done g = let j = judged tab (tell allDone 0) (rw (found, clash-none tasks signals grid w s c g) refl) in (j.0, e ∙ j.1)
+      pub says_done : signals ≤ s → Said tab (tell all_done 0) h
+      says_done g = let j = judged tab (tell all_done 0) (rw (found, clash_none tasks signals grid w s c g) refl) in (j.0, e ∙ j.1)
 
 -- ---- the hyper-period found is that of rules
 module _ (tasks : Tasks) (signals : ℕ) (grid : Grid) where
-  pub hyper-ticks : {h : ℕ} → hyperOf tasks ≡ Ticks h → (h ≡ hyper (timed tasks signals grid)) × (h ≤ longest)
-  hyper-ticks {h} e = let (p, q) = subst (IsHyper (hyper (timed tasks signals grid))) e (hyper-is tasks (record { defaults = []; count = signals }) grid) in (p, omega arith)
+  pub hyper_ticks : {h : ℕ} → hyper_of tasks ≡ Ticks h → (h ≡ hyper (timed tasks signals grid)) × (h ≤ longest)
+  hyper_ticks {h} e = let (p, q) = subst (IsHyper (hyper (timed tasks signals grid))) e (hyper_is tasks (record { defaults = []; count = signals }) grid) in (p, omega arith)
 
-  pub hyper-above : hyperOf tasks ≡ Above → longest < hyper (timed tasks signals grid)
-  hyper-above e = subst (IsHyper (hyper (timed tasks signals grid))) e (hyper-is tasks (record { defaults = []; count = signals }) grid)
+  pub hyper_above : hyper_of tasks ≡ Above → longest < hyper (timed tasks signals grid)
+  hyper_above e = subst (IsHyper (hyper (timed tasks signals grid))) e (hyper_is tasks (record { defaults = []; count = signals }) grid)

@@ -6,53 +6,53 @@ use native.Mathlib.Nat.{div-le_self, mul-le-mul, le_trans}
 use native.Mathlib.Numerals.{add-one}
 use native.Mathlib.Omega.{arith}
 use Rattle.rules.specs.Words.{total, bit}
-use Rattle.rules.specs.Table.{longest, mostSignals}
-use Rattle.rules.specs.Reading.{Grid, task_of, readsIn, writesIn}
+use Rattle.rules.specs.Table.{longest, most_signals}
+use Rattle.rules.specs.Reading.{Grid, task_of, reads_in, writes_in}
 use Rattle.rules.specs.declared.Tasks.{Tasks}
-use Rattle.table.specs.Forms.{accessesIn, usesIn}
+use Rattle.table.specs.Forms.{accesses_in, uses_in}
 
 module _ (f : ℕ → ℕ) where
-  pub total-none : 0 ≡ total f 0
+  pub total_none : 0 ≡ total f 0
   unfolding total
-  total-none = refl
+  total_none = refl
 
   -- after one turn of a loop
-  pub total-turn : (n : ℕ) {sum : ℕ} → sum ≡ total f n → sum + f n ≡ total f (n + 1)
+  pub total_turn : (n : ℕ) {sum : ℕ} → sum ≡ total f n → sum + f n ≡ total f (n + 1)
   unfolding total
-  total-turn n e = rw (add-one n) (ap (λ (x : ℕ). x + f n) e)
+  total_turn n e = rw (add-one n) (ap (λ (x : ℕ). x + f n) e)
 
-  pub total-bound : (b n : ℕ) → ((k : ℕ) → f k ≤ b) → total f n ≤ b * n
+  pub total_bound : (b n : ℕ) → ((k : ℕ) → f k ≤ b) → total f n ≤ b * n
   unfolding total
-  total-bound b zero h = omega arith
-  total-bound b (suc n) h = omega (arith, total-bound b n h, h n)
+  total_bound b zero h = omega arith
+  total_bound b (suc n) h = omega (arith, total_bound b n h, h n)
 
-bit-bound : (b : Bool) → bit b ≤ 1
-bit-bound true = omega arith
-bit-bound false = omega arith
+bit_bound : (b : Bool) → bit b ≤ 1
+bit_bound true = omega arith
+bit_bound false = omega arith
 
-pub rights-bound : (a b : Bool) → bit a + bit b ≤ 2
-rights-bound a b = omega (arith, bit-bound a, bit-bound b)
+pub rights_bound : (a b : Bool) → bit a + bit b ≤ 2
+rights_bound a b = omega (arith, bit_bound a, bit_bound b)
 
 -- a task has at most two accesses to each signal
-pub accesses-bound : (grid : Grid) (k n : ℕ) {a : ℕ} → a ≡ accessesIn grid k n → n ≤ mostSignals → a ≤ 2 * mostSignals
-accesses-bound grid k n e l =
-    omega (arith, total-bound (λ s. bit (readsIn grid s k) + bit (writesIn grid s k)) 2 n (λ s. rights-bound (readsIn grid s k) (writesIn grid s k)))
+pub accesses_bound : (grid : Grid) (k n : ℕ) {a : ℕ} → a ≡ accesses_in grid k n → n ≤ most_signals → a ≤ 2 * most_signals
+accesses_bound grid k n e l =
+    omega (arith, total_bound (λ s. bit (reads_in grid s k) + bit (writes_in grid s k)) 2 n (λ s. rights_bound (reads_in grid s k) (writes_in grid s k)))
 
 -- what one task adds
-pub instances-bound : (h p : ℕ) → h ≤ longest → h / p ≤ longest
-instances-bound h p l = le_trans (div-le_self h p) l
+pub instances_bound : (h p : ℕ) → h ≤ longest → h / p ≤ longest
+instances_bound h p l = le_trans (div-le_self h p) l
 
-pub uses-bound : (x h p : ℕ) → x ≤ 2 * mostSignals → h ≤ longest → x * (h / p) ≤ 2 * mostSignals * longest
-uses-bound x h p b l = mul-le-mul b (instances-bound h p l)
+pub uses_bound : (x h p : ℕ) → x ≤ 2 * most_signals → h ≤ longest → x * (h / p) ≤ 2 * most_signals * longest
+uses_bound x h p b l = mul-le-mul b (instances_bound h p l)
 
 -- one signal more
-pub accesses-turn : (grid : Grid) (k n : ℕ) {sum a b : ℕ} {x y : Bool} → sum ≡ accessesIn grid k n → x ≡ readsIn grid n k → a ≡ bit x → y ≡ writesIn grid n k → b ≡ bit y
-    → sum + (a + b) ≡ accessesIn grid k (n + 1)
-accesses-turn grid k n {sum} e p a q b =
-    ap (λ (z : ℕ). sum + z) (ap₂ ◌+◌ (a ∙ ap bit p) (b ∙ ap bit q)) ∙ total-turn (λ s. bit (readsIn grid s k) + bit (writesIn grid s k)) n e
+pub accesses_turn : (grid : Grid) (k n : ℕ) {sum a b : ℕ} {x y : Bool} → sum ≡ accesses_in grid k n → x ≡ reads_in grid n k → a ≡ bit x → y ≡ writes_in grid n k → b ≡ bit y
+    → sum + (a + b) ≡ accesses_in grid k (n + 1)
+accesses_turn grid k n {sum} e p a q b =
+    ap (λ (z : ℕ). sum + z) (ap₂ ◌+◌ (a ∙ ap bit p) (b ∙ ap bit q)) ∙ total_turn (λ s. bit (reads_in grid s k) + bit (writes_in grid s k)) n e
 
 -- one task more
-pub uses-turn : (tasks : Tasks) (signals : ℕ) (grid : Grid) (h n : ℕ) {sum a : ℕ} → sum ≡ usesIn tasks signals grid h n → a ≡ accessesIn grid n signals
-    → sum + a * (h / (task_of tasks n).period) ≡ usesIn tasks signals grid h (n + 1)
-uses-turn tasks signals grid h n {sum} e a =
-    ap (λ (z : ℕ). sum + z * (h / (task_of tasks n).period)) a ∙ total-turn (λ k. accessesIn grid k signals * (h / (task_of tasks k).period)) n e
+pub uses_turn : (tasks : Tasks) (signals : ℕ) (grid : Grid) (h n : ℕ) {sum a : ℕ} → sum ≡ uses_in tasks signals grid h n → a ≡ accesses_in grid n signals
+    → sum + a * (h / (task_of tasks n).period) ≡ uses_in tasks signals grid h (n + 1)
+uses_turn tasks signals grid h n {sum} e a =
+    ap (λ (z : ℕ). sum + z * (h / (task_of tasks n).period)) a ∙ total_turn (λ k. accesses_in grid k signals * (h / (task_of tasks k).period)) n e

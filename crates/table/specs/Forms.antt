@@ -1,9 +1,9 @@
 -- What the code computes of a table whose records were read. Assumes nothing.
 use Rattle.std.specs.Prelude.{Bool, not, ◌||◌, [], ℕ, ◌+◌, ◌*◌, ◌/◌, ◌%◌, eqb}
 use Rattle.rules.specs.Words.{total, every, lowest, maybe, bit}
-use Rattle.rules.specs.Euclid.{gcdOf}
+use Rattle.rules.specs.Euclid.{gcd_of}
 use Rattle.rules.specs.Windows.{Table}
-use Rattle.rules.specs.Reading.{Grid, task_of, table_of, writesIn, readsIn}
+use Rattle.rules.specs.Reading.{Grid, task_of, table_of, writes_in, reads_in}
 use Rattle.rules.specs.declared.Task.{Task}
 use Rattle.rules.specs.declared.Tasks.{Tasks}
 
@@ -13,29 +13,29 @@ timed tasks signals grid = table_of tasks (record { defaults = []; count = signa
 
 -- ---- sums over h ticks, of the tasks or signals below n
 
-abbrev pub instancesIn : Tasks → ℕ → ℕ → ℕ
-instancesIn tasks h n = total (λ k. h / (task_of tasks k).period) n
+abbrev pub instances_in : Tasks → ℕ → ℕ → ℕ
+instances_in tasks h n = total (λ k. h / (task_of tasks k).period) n
 
-abbrev pub accessesIn : Grid → ℕ → ℕ → ℕ
-accessesIn grid k n = total (λ s. bit (readsIn grid s k) + bit (writesIn grid s k)) n
+abbrev pub accesses_in : Grid → ℕ → ℕ → ℕ
+accesses_in grid k n = total (λ s. bit (reads_in grid s k) + bit (writes_in grid s k)) n
 
-abbrev pub usesIn : Tasks → ℕ → Grid → ℕ → ℕ → ℕ
-usesIn tasks signals grid h n = total (λ k. accessesIn grid k signals * (h / (task_of tasks k).period)) n
+abbrev pub uses_in : Tasks → ℕ → Grid → ℕ → ℕ → ℕ
+uses_in tasks signals grid h n = total (λ k. accesses_in grid k signals * (h / (task_of tasks k).period)) n
 
 -- ---- rule 11
 
 -- two tasks close at one tick
 unfoldable pub meets : Task → Task → Bool
-meets a b = eqb (a.end % gcdOf a.period b.period) (b.end % gcdOf a.period b.period)
+meets a b = eqb (a.end % gcd_of a.period b.period) (b.end % gcd_of a.period b.period)
 
 -- task l meets no writer below it
-unfoldable pub apartBelow : Tasks → (ℕ → Bool) → ℕ → Bool
-apartBelow tasks writes l = every l (λ k. not (writes k) || not (meets (task_of tasks k) (task_of tasks l)))
+unfoldable pub apart_below : Tasks → (ℕ → Bool) → ℕ → Bool
+apart_below tasks writes l = every l (λ k. not (writes k) || not (meets (task_of tasks k) (task_of tasks l)))
 
 -- no two writers meet
-unfoldable pub publishApart : Tasks → (ℕ → Bool) → Bool
-publishApart tasks writes = every tasks.count (λ l. not (writes l) || apartBelow tasks writes l)
+unfoldable pub publish_apart : Tasks → (ℕ → Bool) → Bool
+publish_apart tasks writes = every tasks.count (λ l. not (writes l) || apart_below tasks writes l)
 
 -- the lowest signal of which two writers meet, or their number
-unfoldable pub firstClash : Tasks → ℕ → Grid → ℕ
-firstClash tasks signals grid = maybe (lowest (λ s. not (publishApart tasks (writesIn grid s))) signals) signals (λ s. s)
+unfoldable pub first_clash : Tasks → ℕ → Grid → ℕ
+first_clash tasks signals grid = maybe (lowest (λ s. not (publish_apart tasks (writes_in grid s))) signals) signals (λ s. s)

@@ -1,9 +1,9 @@
 // Rule 11: whether two writers of a signal publish at one tick of the hyper-period.
 ghost use Rattle.std.specs.Prelude.{◌≡◌, ◌<◌, ◌≤◌};
-ghost use Rattle.rules.specs.Table.{mostTasks, mostSignals};
-ghost use Rattle.rules.specs.Reading.{writesIn};
+ghost use Rattle.rules.specs.Table.{most_tasks, most_signals};
+ghost use Rattle.rules.specs.Reading.{writes_in};
 ghost use Rattle.windows.specs.Windowed.{Windowed, AllWindowed};
-ghost use Rattle.table.specs.Forms.{meets, apartBelow, publishApart, firstClash};
+ghost use Rattle.table.specs.Forms.{meets, apart_below, publish_apart, first_clash};
 
 use rules::{MOST_SIGNALS, MOST_TASKS, Task, Tasks};
 use signals::writes;
@@ -24,8 +24,8 @@ pub fn apart_below(
     signal: usize,
     task: usize,
 ) -> bool
-    requires { (tasks.count ≤ mostTasks) × (signal < mostSignals) × AllWindowed tasks × (task < tasks.count) }
-    ensures { result ≡ apartBelow tasks (writesIn grid.now signal) task }
+    requires { (tasks.count ≤ most_tasks) × (signal < most_signals) × AllWindowed tasks × (task < tasks.count) }
+    ensures { result ≡ apart_below tasks (writes_in grid.now signal) task }
 {
     let mut k: usize = 0;
     while k < task {
@@ -41,8 +41,8 @@ pub fn apart_below(
 
 // Whether no two writers of the signal meet.
 pub fn publish_apart(tasks: Tasks, grid: &[[u8; MOST_SIGNALS]; MOST_TASKS], signal: usize) -> bool
-    requires { (tasks.count ≤ mostTasks) × (signal < mostSignals) × AllWindowed tasks }
-    ensures { result ≡ publishApart tasks (writesIn grid.now signal) }
+    requires { (tasks.count ≤ most_tasks) × (signal < most_signals) × AllWindowed tasks }
+    ensures { result ≡ publish_apart tasks (writes_in grid.now signal) }
 {
     let mut k: usize = 0;
     while k < tasks.count {
@@ -58,8 +58,8 @@ pub fn publish_apart(tasks: Tasks, grid: &[[u8; MOST_SIGNALS]; MOST_TASKS], sign
 
 // The lowest signal of which two writers meet, or the number of signals where there is none.
 pub fn first_clash(tasks: Tasks, signals: usize, grid: &[[u8; MOST_SIGNALS]; MOST_TASKS]) -> usize
-    requires { (tasks.count ≤ mostTasks) × (signals ≤ mostSignals) × AllWindowed tasks }
-    ensures { result ≡ firstClash tasks signals grid.now }
+    requires { (tasks.count ≤ most_tasks) × (signals ≤ most_signals) × AllWindowed tasks }
+    ensures { result ≡ first_clash tasks signals grid.now }
 {
     let mut s: usize = 0;
     while s < signals {

@@ -1,11 +1,11 @@
 // Rules 7 to 11 in their order.
 ghost use Rattle.std.specs.Prelude.{◌≡◌, ◌<◌, ◌≤◌};
 ghost use Rattle.rules.specs.Windows as rules-windows;
-ghost use Rattle.rules.specs.Table.{mostTasks, mostSignals, longest};
+ghost use Rattle.rules.specs.Table.{most_tasks, most_signals, longest};
 ghost use Rattle.rules.specs.Numbers.{told};
-ghost use Rattle.rules.specs.Answers.{tableSays};
+ghost use Rattle.rules.specs.Answers.{table_says};
 ghost use Rattle.windows.specs.Windowed.{AllWindowed};
-ghost use Rattle.rules.specs.Reading.{acceptedHyper};
+ghost use Rattle.rules.specs.Reading.{accepted_hyper};
 ghost use Rattle.table.specs.Forms.{timed};
 
 use crate::Judged;
@@ -24,8 +24,8 @@ pub fn judge_within(
     grid: &[[u8; MOST_SIGNALS]; MOST_TASKS],
     hyper: u32,
 ) -> Judged
-    requires { (tasks.count ≤ mostTasks) × (signals ≤ mostSignals) × AllWindowed tasks × (0 < tasks.count) × (hyper ≤ longest) × (hyper ≡ rules-windows.hyper (timed tasks signals grid.now)) }
-    ensures { (told result.answer ≡ tableSays (timed tasks signals grid.now)) × (result.hyper ≡ acceptedHyper (timed tasks signals grid.now)) }
+    requires { (tasks.count ≤ most_tasks) × (signals ≤ most_signals) × AllWindowed tasks × (0 < tasks.count) × (hyper ≤ longest) × (hyper ≡ rules-windows.hyper (timed tasks signals grid.now)) }
+    ensures { (told result.answer ≡ table_says (timed tasks signals grid.now)) × (result.hyper ≡ accepted_hyper (timed tasks signals grid.now)) }
 {
     if rules::MOST_INSTANCES < all_instances(tasks, hyper) {
         return Judged {
@@ -54,8 +54,8 @@ pub fn judge_within(
 
 // 7 to 11.
 pub fn judge(tasks: Tasks, signals: usize, grid: &[[u8; MOST_SIGNALS]; MOST_TASKS]) -> Judged
-    requires { (tasks.count ≤ mostTasks) × (signals ≤ mostSignals) × AllWindowed tasks }
-    ensures { (told result.answer ≡ tableSays (timed tasks signals grid.now)) × (result.hyper ≡ acceptedHyper (timed tasks signals grid.now)) }
+    requires { (tasks.count ≤ most_tasks) × (signals ≤ most_signals) × AllWindowed tasks }
+    ensures { (told result.answer ≡ table_says (timed tasks signals grid.now)) × (result.hyper ≡ accepted_hyper (timed tasks signals grid.now)) }
 {
     if tasks.count == 0 {
         return Judged {

@@ -1,17 +1,17 @@
 // How many instances and uses a table has in a hyper-period.
 ghost use Rattle.std.specs.Prelude.{◌≡◌, ◌<◌, ◌≤◌};
 ghost use Rattle.rules.specs.Words.{bit};
-ghost use Rattle.rules.specs.Table.{mostTasks, mostSignals, longest};
+ghost use Rattle.rules.specs.Table.{most_tasks, most_signals, longest};
 ghost use Rattle.windows.specs.Windowed.{AllWindowed};
-ghost use Rattle.table.specs.Forms.{instancesIn, accessesIn, usesIn};
+ghost use Rattle.table.specs.Forms.{instances_in, accesses_in, uses_in};
 
 use rules::{MOST_SIGNALS, MOST_TASKS, Tasks};
 use signals::{reads, writes};
 
 // How many instances all tasks have.
 pub fn all_instances(tasks: Tasks, hyper: u32) -> u32
-    requires { (tasks.count ≤ mostTasks) × AllWindowed tasks × (hyper ≤ longest) }
-    ensures { result ≡ instancesIn tasks hyper tasks.count }
+    requires { (tasks.count ≤ most_tasks) × AllWindowed tasks × (hyper ≤ longest) }
+    ensures { result ≡ instances_in tasks hyper tasks.count }
 {
     let mut sum: u32 = 0;
     let mut k: usize = 0;
@@ -31,8 +31,8 @@ pub fn one_if(right: bool) -> u32
 
 // How many accesses a task has: one for reading a signal, one for writing it.
 pub fn accesses(grid: &[[u8; MOST_SIGNALS]; MOST_TASKS], signals: usize, task: usize) -> u32
-    requires { (task < mostTasks) × (signals ≤ mostSignals) }
-    ensures { result ≡ accessesIn grid.now task signals }
+    requires { (task < most_tasks) × (signals ≤ most_signals) }
+    ensures { result ≡ accesses_in grid.now task signals }
 {
     let mut sum: u32 = 0;
     let mut s: usize = 0;
@@ -50,8 +50,8 @@ pub fn all_uses(
     grid: &[[u8; MOST_SIGNALS]; MOST_TASKS],
     hyper: u32,
 ) -> u32
-    requires { (tasks.count ≤ mostTasks) × (signals ≤ mostSignals) × AllWindowed tasks × (hyper ≤ longest) }
-    ensures { result ≡ usesIn tasks signals grid.now hyper tasks.count }
+    requires { (tasks.count ≤ most_tasks) × (signals ≤ most_signals) × AllWindowed tasks × (hyper ≤ longest) }
+    ensures { result ≡ uses_in tasks signals grid.now hyper tasks.count }
 {
     let mut sum: u32 = 0;
     let mut k: usize = 0;

@@ -6,46 +6,46 @@ use mathlib.Core.List.{List, [], ◌∷◌}
 use lib.Dec.{eqb}
 use lib.ListN.{length, take}
 use borrow.Author.Tests.{eq-eqb, ne_eqb, eqb-true, eqb-false}
-use Rattle.rules.specs.Numbers.{Told, told, allDone}
-use Rattle.rules.specs.Reading.{tableIn, readSays}
-use Rattle.rules.specs.Listing.{refusedLine, tableLines, text_of, listing}
+use Rattle.rules.specs.Numbers.{Told, told, all_done}
+use Rattle.rules.specs.Reading.{table_in, read_says}
+use Rattle.rules.specs.Listing.{refused_line, table_lines, text_of, listing}
 use Rattle.rules.specs.declared.Answer.{Answer}
 use Rattle.theory.proofs.Tests.{split}
 use Rattle.fields.proofs.Whens.{on, off}
 use Rattle.console.specs.Page.{Page, put_all}
 use Rattle.plan.specs.Gives.{PlanGives}
-use Rattle.plan.proofs.Given.{says, says-refused, done}
+use Rattle.plan.proofs.Given.{says, says_refused, done}
 use Rattle.text.specs.Walk.{Planned}
 
 module _ (table schedule : List ℕ) (r : Answer) (after : List ℕ) (g : PlanGives table schedule r after) where
   abbrev refusal : Told → List ℕ
-  refusal t = text_of (refusedLine t ∷ [])
+  refusal t = text_of (refused_line t ∷ [])
 
   -- a table or a plan that was refused
-  refused-text : ((told r).number ≡ allDone → ⊥) → refusal (told r) ≡ listing table (length schedule)
+  refused_text : ((told r).number ≡ all_done → ⊥) → refusal (told r) ≡ listing table (length schedule)
   unfolding listing
-  refused-text n =
-      split (eqb (readSays table).number allDone)
+  refused_text n =
+      split (eqb (read_says table).number all_done)
       (λ q.
-      let s = says table schedule r after g (eqb-true (readSays table).number allDone q) in
+      let s = says table schedule r after g (eqb-true (read_says table).number all_done q) in
       ap refusal s ∙ sym (ap text_of (off _ _ (ap not q) ∙ on _ _ (ap not (ne_eqb _ _ (λ z. n (ap (λ (t : Told). t.number) s ∙ z)))))))
-      (λ q. ap refusal (says-refused table schedule r after g (eqb-false _ _ q)) ∙ sym (ap text_of (on _ _ (ap not q))))
+      (λ q. ap refusal (says_refused table schedule r after g (eqb-false _ _ q)) ∙ sym (ap text_of (on _ _ (ap not q))))
 
-  pub refused : ((told r).number ≡ allDone → ⊥) → (p : Page) {q : Page} → q ≡ put_all (refusal (told r)) p → q ≡ put_all (listing table (length schedule)) p
-  refused n p e = e ∙ ap (λ (l : List ℕ). put_all l p) (refused-text n)
+  pub refused : ((told r).number ≡ all_done → ⊥) → (p : Page) {q : Page} → q ≡ put_all (refusal (told r)) p → q ≡ put_all (listing table (length schedule)) p
+  refused n p e = e ∙ ap (λ (l : List ℕ). put_all l p) (refused_text n)
 
-  module _ (z : (told r).number ≡ allDone) where
+  module _ (z : (told r).number ≡ all_done) where
     -- one that was planned
     pub planned : {n : ℕ} {bytes : List ℕ} → n ≡ (told r).place → bytes ≡ take n after → Planned table bytes
     planned e b =
         let d = done table schedule r after g z in
         record { accepted = d.accepted; few = d.passes.in_all; bytes = b ∙ ap (λ (n : ℕ). take n after) e ∙ d.front }
 
-    planned-text : text_of (tableLines (tableIn table)) ≡ listing table (length schedule)
+    planned_text : text_of (table_lines (table_in table)) ≡ listing table (length schedule)
     unfolding listing
-    planned-text =
+    planned_text =
         let d = done table schedule r after g z in
         sym (ap text_of (off _ _ (ap not (eq-eqb _ _ d.accepted)) ∙ off _ _ (ap not (eq-eqb _ _ d.done))))
 
-    pub listed : (p : Page) {q : Page} → q ≡ put_all (text_of (tableLines (tableIn table))) p → q ≡ put_all (listing table (length schedule)) p
-    listed p e = e ∙ ap (λ (l : List ℕ). put_all l p) planned-text
+    pub listed : (p : Page) {q : Page} → q ≡ put_all (text_of (table_lines (table_in table))) p → q ≡ put_all (listing table (length schedule)) p
+    listed p e = e ∙ ap (λ (l : List ℕ). put_all l p) planned_text

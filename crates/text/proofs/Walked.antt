@@ -12,70 +12,70 @@ use borrow.Author.Tests.{le-leb}
 use Rattle.rules.specs.Windows.{Table, hyper}
 use Rattle.rules.specs.Schedule.{Schedule, base}
 use Rattle.rules.specs.Plan.{plan}
-use Rattle.rules.specs.Fields.{BF, WI, byte_at, holdsAt, markAt}
-use Rattle.rules.specs.Bytes.{Part, bf, wi, ri, size, parts, recordsOf, bytes_of}
-use Rattle.rules.specs.Listing.{ascii, useLine, totalLine, hyperLine, recordLine, tableLines, text_of}
+use Rattle.rules.specs.Fields.{BF, WI, byte_at, holds_at, mark_at}
+use Rattle.rules.specs.Bytes.{Part, bf, wi, ri, size, parts, records_of, bytes_of}
+use Rattle.rules.specs.Listing.{ascii, use_line, total_line, hyper_line, record_line, table_lines, text_of}
 use Rattle.fields.proofs.Tested.{said}
 use Rattle.fields.proofs.Whens.{on, off}
 use Rattle.console.specs.Page.{Page, page, put_all}
 use Rattle.console.proofs.Turns.{to_end}
 use Rattle.text.specs.declared.walk.Listed.{Listed}
-use Rattle.text.specs.Walk.{Found, signalIn, useIn, recordIn, Lists}
-use Rattle.text.proofs.Put.{put-lines}
-use Rattle.text.proofs.Weights.{weight, weights, weights-all}
+use Rattle.text.specs.Walk.{Found, signal_in, use_in, record_in, Lists}
+use Rattle.text.proofs.Put.{put_lines}
+use Rattle.text.proofs.Weights.{weight, weights, weights_all}
 
 -- ---- the record in front, by its mark
 
-module _ (bytes : List ℕ) {b : Bool} (e : b ≡ markAt bytes 0 BF) where
-  pub is-signal : b ≡ true → recordIn bytes ≡ signalIn bytes
-  unfolding recordIn
-  is-signal t = on _ _ (said e t)
+module _ (bytes : List ℕ) {b : Bool} (e : b ≡ mark_at bytes 0 BF) where
+  pub is_signal : b ≡ true → record_in bytes ≡ signal_in bytes
+  unfolding record_in
+  is_signal t = on _ _ (said e t)
 
-  module _ (f : b ≡ false) {d : Bool} (g : d ≡ markAt bytes 0 WI) where
-    pub is-write : d ≡ true → recordIn bytes ≡ useIn (ascii "write ") bytes
-    unfolding recordIn
-    is-write t = off _ _ (said e f) ∙ on _ _ (said g t)
+  module _ (f : b ≡ false) {d : Bool} (g : d ≡ mark_at bytes 0 WI) where
+    pub is_write : d ≡ true → record_in bytes ≡ use_in (ascii "write ") bytes
+    unfolding record_in
+    is_write t = off _ _ (said e f) ∙ on _ _ (said g t)
 
-    pub is_read : d ≡ false → recordIn bytes ≡ useIn (ascii "read ") bytes
-    unfolding recordIn
+    pub is_read : d ≡ false → record_in bytes ≡ use_in (ascii "read ") bytes
+    unfolding record_in
     is_read t = off _ _ (said e f) ∙ off _ _ (said g t)
 
 -- ---- the records of a schedule
 
-mark-is : (a b : ℕ) (rest mark : List ℕ) → markAt (a ∷ b ∷ rest) 0 mark ≡ (eqb a (byte_at mark 0) && eqb b (byte_at mark 1))
-unfolding markAt holdsAt
-mark-is a b rest mark = rw (le-leb 2 (length (a ∷ b ∷ rest)) (omega arith))
+mark_is : (a b : ℕ) (rest mark : List ℕ) → mark_at (a ∷ b ∷ rest) 0 mark ≡ (eqb a (byte_at mark 0) && eqb b (byte_at mark 1))
+unfolding mark_at holds_at
+mark_is a b rest mark = rw (le-leb 2 (length (a ∷ b ∷ rest)) (omega arith))
 
 module _ (tab : Table) (E : Schedule) where
-  abbrev foundOf : Part → Found
-  foundOf x = record { line = recordLine E x; size = size x; count = weight E.count 0 x }
+  abbrev found_of : Part → Found
+  found_of x = record { line = record_line E x; size = size x; count = weight E.count 0 x }
 
-  abbrev useOf : List ℕ → ℕ → ℕ → ℕ → Found
-  useOf name k i e = record { line = useLine name k i e; size = 7; count = 0 }
+  abbrev use_of : List ℕ → ℕ → ℕ → ℕ → Found
+  use_of name k i e = record { line = use_line name k i e; size = 7; count = 0 }
 
   -- the first of them is found: an instance is its high byte and its low byte
-  found : (x : Part) (xs : List Part) → recordIn (recordsOf tab E (x ∷ xs)) ≡ foundOf x
-  unfolding recordsOf
-  found (bf s) xs = is-signal _ refl (mark-is _ _ _ BF)
-  found (wi s k i) xs = is-write _ refl (mark-is _ _ _ BF) refl (mark-is _ _ _ WI) ∙ ap (λ (j : ℕ). useOf (ascii "write ") k j (E.writer s k i)) (div-add-mod' i 256)
-  found (ri s k i) xs = is_read _ refl (mark-is _ _ _ BF) refl (mark-is _ _ _ WI) ∙ ap (λ (j : ℕ). useOf (ascii "read ") k j (E.reader s k i)) (div-add-mod' i 256)
+  found : (x : Part) (xs : List Part) → record_in (records_of tab E (x ∷ xs)) ≡ found_of x
+  unfolding records_of
+  found (bf s) xs = is_signal _ refl (mark_is _ _ _ BF)
+  found (wi s k i) xs = is_write _ refl (mark_is _ _ _ BF) refl (mark_is _ _ _ WI) ∙ ap (λ (j : ℕ). use_of (ascii "write ") k j (E.writer s k i)) (div-add-mod' i 256)
+  found (ri s k i) xs = is_read _ refl (mark_is _ _ _ BF) refl (mark_is _ _ _ WI) ∙ ap (λ (j : ℕ). use_of (ascii "read ") k j (E.reader s k i)) (div-add-mod' i 256)
 
   -- and the others follow it
-  follow : (x : Part) (xs : List Part) → drop (size x) (recordsOf tab E (x ∷ xs)) ≡ recordsOf tab E xs
-  unfolding recordsOf
+  follow : (x : Part) (xs : List Part) → drop (size x) (records_of tab E (x ∷ xs)) ≡ records_of tab E xs
+  unfolding records_of
   follow (bf s) xs = refl
   follow (wi s k i) xs = refl
   follow (ri s k i) xs = refl
 
-  long : (x : Part) (xs : List Part) → length (recordsOf tab E (x ∷ xs)) ≡ size x + length (recordsOf tab E xs)
-  unfolding recordsOf
+  long : (x : Part) (xs : List Part) → length (records_of tab E (x ∷ xs)) ≡ size x + length (records_of tab E xs)
+  unfolding records_of
   long (bf s) xs = omega arith
   long (wi s k i) xs = omega arith
   long (ri s k i) xs = omega arith
 
   -- EN ends them
-  least : (xs : List Part) → 2 ≤ length (recordsOf tab E xs)
-  unfolding recordsOf
+  least : (xs : List Part) → 2 ≤ length (records_of tab E xs)
+  unfolding records_of
   least [] = omega arith
   least (x ∷ xs) = omega (arith, long x xs, least xs)
 
@@ -83,7 +83,7 @@ module _ (tab : Table) (E : Schedule) where
 
 -- the lines of these records, and the last one
 abbrev pub lines_from : Table → List Part → List (List ℕ)
-lines_from tab left = map (recordLine (plan tab)) left ++ totalLine (base (plan tab) tab.signals) ∷ []
+lines_from tab left = map (record_line (plan tab)) left ++ total_line (base (plan tab) tab.signals) ∷ []
 
 module _ (tab : Table) (schedule : List ℕ) (whole : Page) where
   abbrev E : Schedule
@@ -91,7 +91,7 @@ module _ (tab : Table) (schedule : List ℕ) (whole : Page) where
 
   -- these records stand from a place on, and their lines make the page whole
   pub record Left (left : List Part) (out : List ℕ) (used counted at : ℕ) : Type 0 where
-    pub stands : drop at schedule ≡ recordsOf tab E left
+    pub stands : drop at schedule ≡ records_of tab E left
     pub counts : counted + weights E.count 0 left ≡ base E tab.signals
     pub text : put_all (text_of (lines_from tab left)) (page out used) ≡ whole
 
@@ -104,10 +104,10 @@ module _ (tab : Table) (schedule : List ℕ) (whole : Page) where
     pub next : (r : Listed) (after : List ℕ) → Lists found out used r after → Left rest after r.used (counted + r.count) (at + r.size)
 
   module _ (out : List ℕ) (used counted at : ℕ) where
-    turn_at : (left : List Part) → Left left out used counted at → at + 2 < length schedule → Turn out used counted at (recordIn (drop at schedule))
-    unfolding recordsOf weights
+    turn_at : (left : List Part) → Left left out used counted at → at + 2 < length schedule → Turn out used counted at (record_in (drop at schedule))
+    unfolding records_of weights
     turn_at [] L h = absurd (omega (arith, length-drop at schedule, ap length L.stands))
-    turn_at (x ∷ xs) L h = subst (Turn out used counted at) (sym (ap recordIn L.stands ∙ found tab E x xs)) (record {
+    turn_at (x ∷ xs) L h = subst (Turn out used counted at) (sym (ap record_in L.stands ∙ found tab E x xs)) (record {
       within = omega (arith, length-drop at schedule, ap length L.stands, long tab E x xs);
       some = omega arith;
       few = omega (arith, L.counts);
@@ -115,29 +115,29 @@ module _ (tab : Table) (schedule : List ℕ) (whole : Page) where
       next = λ r after l. record {
         stands = ap (λ (n : ℕ). drop (at + n) schedule) l.0 ∙ sym (drop-drop (size x) at schedule) ∙ ap (drop (size x)) L.stands ∙ follow tab E x xs;
         counts = omega (arith, l.1, L.counts);
-        text = ap (put_all (text_of (lines_from tab xs))) l.2 ∙ sym (put-lines (recordLine E x) (lines_from tab xs) (page out used)) ∙ L.text;
+        text = ap (put_all (text_of (lines_from tab xs))) l.2 ∙ sym (put_lines (record_line E x) (lines_from tab xs) (page out used)) ∙ L.text;
       };
     })
 
-    end-at : (left : List Part) → Left left out used counted at → length schedule ≤ at + 2 → put_all (text_of (totalLine counted ∷ [])) (page out used) ≡ whole
+    end_at : (left : List Part) → Left left out used counted at → length schedule ≤ at + 2 → put_all (text_of (total_line counted ∷ [])) (page out used) ≡ whole
     unfolding weights
-    end-at [] L h = let q : counted ≡ base E tab.signals = omega (arith, L.counts) in ap (λ (n : ℕ). put_all (text_of (totalLine n ∷ [])) (page out used)) q ∙ L.text
-    end-at (x ∷ xs) L h = absurd (omega (arith, length-drop at schedule, ap length L.stands, long tab E x xs, least tab E xs))
+    end_at [] L h = let q : counted ≡ base E tab.signals = omega (arith, L.counts) in ap (λ (n : ℕ). put_all (text_of (total_line n ∷ [])) (page out used)) q ∙ L.text
+    end_at (x ∷ xs) L h = absurd (omega (arith, length-drop at schedule, ap length L.stands, long tab E x xs, least tab E xs))
 
 module _ {tab : Table} {schedule : List ℕ} {whole : Page} {left : List Part} {out : List ℕ} {used counted at : ℕ} (L : Left tab schedule whole left out used counted at) where
   pub room : at + 2 ≤ length schedule
   room = omega (arith, length-drop at schedule, ap length L.stands, least tab (plan tab) left)
 
-  pub turn : at + 2 < length schedule → Turn tab schedule whole out used counted at (recordIn (take (length schedule - at) (drop at schedule)))
+  pub turn : at + 2 < length schedule → Turn tab schedule whole out used counted at (record_in (take (length schedule - at) (drop at schedule)))
   turn h = rw (to_end schedule at) (turn_at tab schedule whole out used counted at left L h)
 
-  pub end : length schedule ≤ at + 2 → put_all (text_of (totalLine counted ∷ [])) (page out used) ≡ whole
-  end h = end-at tab schedule whole out used counted at left L h
+  pub end : length schedule ≤ at + 2 → put_all (text_of (total_line counted ∷ [])) (page out used) ≡ whole
+  end h = end_at tab schedule whole out used counted at left L h
 
 -- with the line in front of them they are the lines of the table
-pub headed : (tab : Table) (p : Page) {h : ℕ} {q : Page} → h ≡ hyper tab → q ≡ put_all (text_of (hyperLine h ∷ [])) p → put_all (text_of (lines_from tab (parts tab))) q ≡ put_all (text_of (tableLines tab)) p
-unfolding tableLines
-headed tab p e f = ap (put_all (text_of (lines_from tab (parts tab)))) (rw e at f) ∙ sym (put-lines (hyperLine (hyper tab)) (lines_from tab (parts tab)) p)
+pub headed : (tab : Table) (p : Page) {h : ℕ} {q : Page} → h ≡ hyper tab → q ≡ put_all (text_of (hyper_line h ∷ [])) p → put_all (text_of (lines_from tab (parts tab))) q ≡ put_all (text_of (table_lines tab)) p
+unfolding table_lines
+headed tab p e f = ap (put_all (text_of (lines_from tab (parts tab)))) (rw e at f) ∙ sym (put_lines (hyper_line (hyper tab)) (lines_from tab (parts tab)) p)
 
 -- a part that goes on to the end
 pub part_length : (schedule : List ℕ) (at : ℕ) → length (take (length schedule - at) (drop at schedule)) ≡ length schedule - at
@@ -146,4 +146,4 @@ part_length schedule at = ap length (to_end schedule at) ∙ length-drop at sche
 -- at the start all records are left
 pub start : (tab : Table) (schedule out : List ℕ) (used : ℕ) → schedule ≡ bytes_of tab (plan tab) → Left tab schedule (put_all (text_of (lines_from tab (parts tab))) (page out used)) (parts tab) out used 0 0
 unfolding bytes_of base
-start tab schedule out used e = record { stands = e; counts = omega (arith, weights-all (plan tab).count 0 tab); text = refl }
+start tab schedule out used e = record { stands = e; counts = omega (arith, weights_all (plan tab).count 0 tab); text = refl }

@@ -7,8 +7,8 @@ use native.Mathlib.Omega.{arith}
 use Rattle.rules.specs.Words.{total, gather, times}
 use Rattle.rules.specs.Windows.{Table, instances}
 use Rattle.rules.specs.Table.{uses}
-use Rattle.rules.specs.Bytes.{Part, bf, wi, ri, writersBelow, readersBelow, writerParts, readerParts, parts_of, parts}
-use Rattle.theory.proofs.Sums.{total-add, total-times, uses-all}
+use Rattle.rules.specs.Bytes.{Part, bf, wi, ri, writers_below, readers_below, writer_parts, reader_parts, parts_of, parts}
+use Rattle.theory.proofs.Sums.{total_add, total_times, uses_all}
 
 -- a signal's record counts for f, that of an instance for b
 abbrev pub weight : (ℕ → ℕ) → ℕ → Part → ℕ
@@ -38,21 +38,21 @@ module _ (f : ℕ → ℕ) (b : ℕ) where
   used one (suc n) e = omega (arith, append (gather n (λ i. one i ∷ [])) (one n ∷ []), used one n e, e n, suc-mul n b)
 
   module _ (tab : Table) where
-    usesOf : ℕ → ℕ
-    usesOf s = writersBelow tab s tab.tasks + readersBelow tab s tab.tasks
+    uses_of : ℕ → ℕ
+    uses_of s = writers_below tab s tab.tasks + readers_below tab s tab.tasks
 
-    signal : (s : ℕ) → weights f b (parts_of tab s) ≡ f s + usesOf s * b
-    unfolding usesOf parts_of weights writersBelow readersBelow
+    signal : (s : ℕ) → weights f b (parts_of tab s) ≡ f s + uses_of s * b
+    unfolding uses_of parts_of weights writers_below readers_below
     signal s =
-        let w : weights f b (writerParts tab s) ≡ total (λ k. times (tab.writes s k) (instances tab k)) tab.tasks * b
-        = gathered _ _ tab.tasks (λ k. used (wi s k) (times (tab.writes s k) (instances tab k)) (λ i. refl)) ∙ sym (total-times _ b tab.tasks) in
-        let r : weights f b (readerParts tab s) ≡ total (λ k. times (tab.reads s k) (instances tab k)) tab.tasks * b
-        = gathered _ _ tab.tasks (λ k. used (ri s k) (times (tab.reads s k) (instances tab k)) (λ i. refl)) ∙ sym (total-times _ b tab.tasks) in
-        omega (arith, append (writerParts tab s) (readerParts tab s), add-mul (total (λ k. times (tab.writes s k) (instances tab k)) tab.tasks) (total (λ k. times (tab.reads s k) (instances tab k)) tab.tasks) b)
+        let w : weights f b (writer_parts tab s) ≡ total (λ k. times (tab.writes s k) (instances tab k)) tab.tasks * b
+        = gathered _ _ tab.tasks (λ k. used (wi s k) (times (tab.writes s k) (instances tab k)) (λ i. refl)) ∙ sym (total_times _ b tab.tasks) in
+        let r : weights f b (reader_parts tab s) ≡ total (λ k. times (tab.reads s k) (instances tab k)) tab.tasks * b
+        = gathered _ _ tab.tasks (λ k. used (ri s k) (times (tab.reads s k) (instances tab k)) (λ i. refl)) ∙ sym (total_times _ b tab.tasks) in
+        omega (arith, append (writer_parts tab s) (reader_parts tab s), add-mul (total (λ k. times (tab.writes s k) (instances tab k)) tab.tasks) (total (λ k. times (tab.reads s k) (instances tab k)) tab.tasks) b)
 
-    pub weights-all : weights f b (parts tab) ≡ total f tab.signals + uses tab * b
-    unfolding parts usesOf
-    weights-all =
+    pub weights_all : weights f b (parts tab) ≡ total f tab.signals + uses tab * b
+    unfolding parts uses_of
+    weights_all =
         gathered (parts_of tab) _ tab.signals signal
-        ∙ total-add f (λ s. usesOf s * b) tab.signals
-        ∙ ap (λ (n : ℕ). total f tab.signals + n) (sym (total-times usesOf b tab.signals) ∙ ap (λ (n : ℕ). n * b) (uses-all tab))
+        ∙ total_add f (λ s. uses_of s * b) tab.signals
+        ∙ ap (λ (n : ℕ). total f tab.signals + n) (sym (total_times uses_of b tab.signals) ∙ ap (λ (n : ℕ). n * b) (uses_all tab))

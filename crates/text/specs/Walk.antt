@@ -4,20 +4,20 @@ use Rattle.rules.specs.Words.{when}
 use Rattle.rules.specs.Table.{words}
 use Rattle.rules.specs.Schedule.{base}
 use Rattle.rules.specs.Plan.{plan}
-use Rattle.rules.specs.Numbers.{allDone}
-use Rattle.rules.specs.Fields.{BF, WI, byte_at, markAt}
+use Rattle.rules.specs.Numbers.{all_done}
+use Rattle.rules.specs.Fields.{BF, WI, byte_at, mark_at}
 use Rattle.rules.specs.Bytes.{bytes_of}
-use Rattle.rules.specs.Reading.{tableIn, readSays}
-use Rattle.rules.specs.Listing.{ascii, signalLine, useLine, text_of}
-use Rattle.form.specs.Records.{bfBytes, useBytes}
+use Rattle.rules.specs.Reading.{table_in, read_says}
+use Rattle.rules.specs.Listing.{ascii, signal_line, use_line, text_of}
+use Rattle.form.specs.Records.{bf_bytes, use_bytes}
 use Rattle.console.specs.Page.{page, put_all}
 use Rattle.text.specs.declared.walk.Listed.{Listed}
 
 -- these bytes are the schedule of a table that was planned
 pub record Planned (table schedule : List ℕ) : Type 0 where
-  pub accepted : (readSays table).number ≡ allDone
-  pub few : base (plan (tableIn table)) (tableIn table).signals ≤ words
-  pub bytes : schedule ≡ bytes_of (tableIn table) (plan (tableIn table))
+  pub accepted : (read_says table).number ≡ all_done
+  pub few : base (plan (table_in table)) (table_in table).signals ≤ words
+  pub bytes : schedule ≡ bytes_of (table_in table) (plan (table_in table))
 
 -- a record's line, its bytes, and its count if it is a signal's
 pub record Found : Type 0 where
@@ -25,22 +25,22 @@ pub record Found : Type 0 where
   pub size : ℕ
   pub count : ℕ
 
-abbrev pub signalIn : List ℕ → Found
-signalIn bytes = record { line = signalLine (byte_at bytes 2) (byte_at bytes 3); size = bfBytes; count = byte_at bytes 3 }
+abbrev pub signal_in : List ℕ → Found
+signal_in bytes = record { line = signal_line (byte_at bytes 2) (byte_at bytes 3); size = bf_bytes; count = byte_at bytes 3 }
 
 -- high byte first
-abbrev pub instanceIn : List ℕ → ℕ
-instanceIn bytes = byte_at bytes 4 * 256 + byte_at bytes 5
+abbrev pub instance_in : List ℕ → ℕ
+instance_in bytes = byte_at bytes 4 * 256 + byte_at bytes 5
 
-abbrev pub useIn : (name bytes : List ℕ) → Found
-useIn name bytes = record { line = useLine name (byte_at bytes 3) (instanceIn bytes) (byte_at bytes 6); size = useBytes; count = 0 }
+abbrev pub use_in : (name bytes : List ℕ) → Found
+use_in name bytes = record { line = use_line name (byte_at bytes 3) (instance_in bytes) (byte_at bytes 6); size = use_bytes; count = 0 }
 
 -- the record in front: before EN there are no others
-unfoldable pub recordIn : List ℕ → Found
-recordIn bytes =
-    when (markAt bytes 0 BF) (signalIn bytes)
-    (when (markAt bytes 0 WI) (useIn (ascii "write ") bytes)
-    (useIn (ascii "read ") bytes))
+unfoldable pub record_in : List ℕ → Found
+record_in bytes =
+    when (mark_at bytes 0 BF) (signal_in bytes)
+    (when (mark_at bytes 0 WI) (use_in (ascii "write ") bytes)
+    (use_in (ascii "read ") bytes))
 
 -- r is what listing it on a page gives, and `after` what is left there
 abbrev pub Lists : Found → (out : List ℕ) (used : ℕ) → Listed → (after : List ℕ) → Type 0

@@ -1,9 +1,9 @@
 // The listing of a table's bytes.
 ghost use Rattle.std.specs.Prelude.{◌≡◌};
 ghost use Rattle.rules.specs.Windows.{hyper};
-ghost use Rattle.rules.specs.Numbers.{allDone};
-ghost use Rattle.rules.specs.Reading.{tableIn, readSays};
-ghost use Rattle.rules.specs.Listing.{tableLines, text_of};
+ghost use Rattle.rules.specs.Numbers.{all_done};
+ghost use Rattle.rules.specs.Reading.{table_in, read_says};
+ghost use Rattle.rules.specs.Listing.{table_lines, text_of};
 ghost use Rattle.console.specs.Page.{page, put_all};
 ghost use Rattle.text.specs.Walk.{Planned};
 ghost use Rattle.text.specs.Gives.{ListingGives};
@@ -17,8 +17,8 @@ use rules::EN_BYTES;
 use table::read_table;
 
 fn hyper_of(table: &[u8]) -> u32
-    requires { (readSays table.now).number ≡ allDone }
-    ensures { result ≡ hyper (tableIn table.now) }
+    requires { (read_says table.now).number ≡ all_done }
+    ensures { result ≡ hyper (table_in table.now) }
 {
     let read = read_table(table);
     read.hyper
@@ -27,7 +27,7 @@ fn hyper_of(table: &[u8]) -> u32
 // The records of the schedule stand before its EN.
 fn put_planned(table: &[u8], schedule: &[u8], out: &mut [u8], from: usize) -> usize
     requires { Planned table.now schedule.now }
-    ensures { page out.new result ≡ put_all (text_of (tableLines (tableIn table.now))) (page out.old from) }
+    ensures { page out.new result ≡ put_all (text_of (table_lines (table_in table.now))) (page out.old from) }
 {
     let mut used = put_hyper(out, from, hyper_of(table));
     let mut sum: u64 = 0;

@@ -1,7 +1,7 @@
 // The record in front of the bytes, which go on to the schedule's end, put on the page as a line.
 ghost use Rattle.std.specs.Prelude.{◌≡◌, ◌≤◌, length};
-ghost use Rattle.form.specs.Records.{bfBytes, useBytes};
-ghost use Rattle.text.specs.Walk.{signalIn, instanceIn, useIn, recordIn, Lists};
+ghost use Rattle.form.specs.Records.{bf_bytes, use_bytes};
+ghost use Rattle.text.specs.Walk.{signal_in, instance_in, use_in, record_in, Lists};
 
 use crate::lines::{put_signal, put_use};
 use fields::{marked, wide};
@@ -22,8 +22,8 @@ pub struct Listed {
 }
 
 fn list_signal(bytes: &[u8], out: &mut [u8], used: usize) -> Listed
-    requires { bfBytes ≤ length bytes.now }
-    ensures { Lists (signalIn bytes.now) out.old used result out.new }
+    requires { bf_bytes ≤ length bytes.now }
+    ensures { Lists (signal_in bytes.now) out.old used result out.new }
 {
     let count = bytes[COUNT_AT];
     let end = put_signal(out, used, bytes[SIGNAL_AT], count);
@@ -35,15 +35,15 @@ fn list_signal(bytes: &[u8], out: &mut [u8], used: usize) -> Listed
 }
 
 fn instance_in(bytes: &[u8]) -> u64
-    requires { useBytes ≤ length bytes.now }
-    ensures { result ≡ instanceIn bytes.now }
+    requires { use_bytes ≤ length bytes.now }
+    ensures { result ≡ instance_in bytes.now }
 {
     (wide(bytes[INSTANCE_AT]) * 256 + wide(bytes[LOW_AT])) as u64
 }
 
 fn list_use(bytes: &[u8], out: &mut [u8], used: usize, name: &[u8]) -> Listed
-    requires { useBytes ≤ length bytes.now }
-    ensures { Lists (useIn name.now bytes.now) out.old used result out.new }
+    requires { use_bytes ≤ length bytes.now }
+    ensures { Lists (use_in name.now bytes.now) out.old used result out.new }
 {
     let instance = instance_in(bytes);
     let end = put_use(out, used, name, bytes[TASK_AT], instance, bytes[ELEMENT_AT]);
@@ -56,8 +56,8 @@ fn list_use(bytes: &[u8], out: &mut [u8], used: usize, name: &[u8]) -> Listed
 
 // Before EN a record that is neither a signal's nor a writer's is a reader's.
 pub fn list_record(bytes: &[u8], out: &mut [u8], used: usize) -> Listed
-    requires { (recordIn bytes.now).size ≤ length bytes.now }
-    ensures { Lists (recordIn bytes.now) out.old used result out.new }
+    requires { (record_in bytes.now).size ≤ length bytes.now }
+    ensures { Lists (record_in bytes.now) out.old used result out.new }
 {
     if marked(bytes, 0, BF) {
         return list_signal(bytes, out, used);

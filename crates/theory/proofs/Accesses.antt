@@ -12,39 +12,39 @@ use lib.Seq.{get_or-set_same, get_or-set_other}
 use borrow.Author.Tests.{eqb-true, eqb-false, eq-eqb, leb-true, leb-false}
 use Rattle.rules.specs.Words.{when}
 use Rattle.rules.specs.Windows.{Table}
-use Rattle.rules.specs.Table.{mostTasks, mostSignals}
+use Rattle.rules.specs.Table.{most_tasks, most_signals}
 use Rattle.rules.specs.Fields.{byte_at}
 use Rattle.rules.specs.Records.{key_of}
-use Rattle.rules.specs.Reading.{Grid, noGrid, cell_at, joinedOf, putCell, Marked, putMarked, noMarked, writesIn, readsIn, table_of}
+use Rattle.rules.specs.Reading.{Grid, no_grid, cell_at, joined_of, put_cell, Marked, put_marked, no_marked, writes_in, reads_in, table_of}
 use Rattle.rules.specs.declared.Access.{Access}
 use Rattle.rules.specs.declared.Tasks.{Tasks}
 use Rattle.rules.specs.declared.Signals.{Signals}
-use Rattle.theory.proofs.Tests.{split, both, or_cases, or_left, or_right, and_is, not-both}
-use Rattle.theory.proofs.Lists.{In, all_in, Rising, rising-same}
-use Rattle.theory.proofs.Sections.{Kind, puts, Fitting, fitting-all}
-use Rattle.theory.proofs.Records.{each_right, Names, Follows, accessKind}
-use Rattle.theory.proofs.Listed.{access, accessList, allowed, Has, all-has, in-accesses, accesses-rise}
+use Rattle.theory.proofs.Tests.{split, both, or_cases, or_left, or_right, and_is, not_both}
+use Rattle.theory.proofs.Lists.{In, all_in, Rising, rising_same}
+use Rattle.theory.proofs.Sections.{Kind, puts, Fitting, fitting_all}
+use Rattle.theory.proofs.Records.{each_right, Names, Follows, access_kind}
+use Rattle.theory.proofs.Listed.{access, access_list, allowed, Has, all_has, in_accesses, accesses_rise}
 
 -- ---- one cell
 
 -- a cell that a right has joined has that right and those before; it has WR only if that is the right
 abbrev Joined : ℕ → ℕ → Type 0
-Joined right cell = (2 ≤ joinedOf right cell → 1 < right) × ((r : ℕ) → 0 < r → r < 3 → eqb (joinedOf right cell / r % 2) 1 ≡ (eqb r right || eqb (cell / r % 2) 1))
+Joined right cell = (2 ≤ joined_of right cell → 1 < right) × ((r : ℕ) → 0 < r → r < 3 → eqb (joined_of right cell / r % 2) 1 ≡ (eqb r right || eqb (cell / r % 2) 1))
 
-joins-read : (cell : ℕ) → (1 ≤ cell → 1 < 1) → cell < 2 → Joined 1 cell
-unfolding joinedOf when
-joins-read zero f h = ((λ h. h), each_right (λ r. eqb (1 / r % 2) 1 ≡ (eqb r 1 || eqb (0 / r % 2) 1)) refl refl)
-joins-read (suc cell) f h = absurd (omega (arith, f (omega arith)))
+joins_read : (cell : ℕ) → (1 ≤ cell → 1 < 1) → cell < 2 → Joined 1 cell
+unfolding joined_of when
+joins_read zero f h = ((λ h. h), each_right (λ r. eqb (1 / r % 2) 1 ≡ (eqb r 1 || eqb (0 / r % 2) 1)) refl refl)
+joins_read (suc cell) f h = absurd (omega (arith, f (omega arith)))
 
 joins_write : (cell : ℕ) → (1 ≤ cell → 1 < 2) → cell < 2 → Joined 2 cell
-unfolding joinedOf when
+unfolding joined_of when
 joins_write zero f h = ((λ h. h), each_right (λ r. eqb (2 / r % 2) 1 ≡ (eqb r 2 || eqb (0 / r % 2) 1)) refl refl)
 joins_write (suc zero) f h = ((λ h. omega arith), each_right (λ r. eqb (3 / r % 2) 1 ≡ (eqb r 2 || eqb (1 / r % 2) 1)) refl refl)
 joins_write (suc (suc cell)) f h = absurd (omega arith)
 
 -- it joins a cell that has none; and WR, one that has RD
 joins : (cell right : ℕ) → 0 < right → right < 3 → (1 ≤ cell → 1 < right) → cell < 2 → Joined right cell
-joins cell = each_right (λ r. (1 ≤ cell → 1 < r) → cell < 2 → Joined r cell) (joins-read cell) (joins_write cell)
+joins cell = each_right (λ r. (1 ≤ cell → 1 < r) → cell < 2 → Joined r cell) (joins_read cell) (joins_write cell)
 
 -- ---- the grid
 
@@ -67,10 +67,10 @@ and_then {P} {I} {Q} {E} {R} more one = ((λ p. to (more.0 p)), from)
 
 -- 16 rows of 32 cells
 record Shaped (g : Grid) : Type 0 where
-  rows : length g ≡ mostTasks
-  columns : (k : ℕ) → k < mostTasks → length (get_or g k []) ≡ mostSignals
+  rows : length g ≡ most_tasks
+  columns : (k : ℕ) → k < most_tasks → length (get_or g k []) ≡ most_signals
 
-module _ (g : Grid) (h : Shaped g) (k s v : ℕ) (small : k < mostTasks) (narrow : s < mostSignals) where
+module _ (g : Grid) (h : Shaped g) (k s v : ℕ) (small : k < most_tasks) (narrow : s < most_signals) where
   abbrev stored : Grid
   stored = set g k (set (get_or g k []) s v)
 
@@ -83,8 +83,8 @@ module _ (g : Grid) (h : Shaped g) (k s v : ℕ) (small : k < mostTasks) (narrow
       (λ q. let z = eqb-true l k q in rw (z, get_or-set_same g k (set (get_or g k []) s v) [] (omega (arith, h.rows))) (get_or-set_other (get_or g k []) s r v 0 (n z)))
       (λ q. rw (get_or-set_other g k l (set (get_or g k []) s v) [] (eqb-false l k q)))
 
-  stored-shaped : Shaped stored
-  stored-shaped = record {
+  stored_shaped : Shaped stored
+  stored_shaped = record {
     rows = length-set g k (set (get_or g k []) s v) ∙ h.rows;
     columns = λ l z.
         split (eqb l k)
@@ -93,8 +93,8 @@ module _ (g : Grid) (h : Shaped g) (k s v : ℕ) (small : k < mostTasks) (narrow
   }
 
 -- the grid has this access
-abbrev hasRight : Grid → Access → Bool
-hasRight g x = eqb (cell_at g x.task x.signal / x.right % 2) 1
+abbrev has_right : Grid → Access → Bool
+has_right g x = eqb (cell_at g x.task x.signal / x.right % 2) 1
 
 -- no access of the grid comes after the last
 record Kept (b : Marked) : Type 0 where
@@ -102,7 +102,7 @@ record Kept (b : Marked) : Type 0 where
   reads : (k s : ℕ) → 1 ≤ cell_at b.grid k s → key_of (access k s 1) ≤ key_of b.accesses.last
   writes : (k s : ℕ) → 2 ≤ cell_at b.grid k s → key_of (access k s 2) ≤ key_of b.accesses.last
 
-module _ (bytes : List ℕ) (tasks signals : ℕ) (few-tasks : tasks ≤ mostTasks) (few-signals : signals ≤ mostSignals) where
+module _ (bytes : List ℕ) (tasks signals : ℕ) (few_tasks : tasks ≤ most_tasks) (few_signals : signals ≤ most_signals) where
   module _ (b : Marked) (x : Access) (f : Follows tasks signals b x) (K : Kept b) where
     abbrev c : ℕ
     c = cell_at b.grid x.task x.signal
@@ -114,28 +114,28 @@ module _ (bytes : List ℕ) (tasks signals : ℕ) (few-tasks : tasks ≤ mostTas
         (split (leb 2 c) (λ q. absurd (omega (arith, K.writes x.task x.signal (leb-true 2 c q), f.after, f.names.right))) (λ q. leb-false 2 c q))
 
     -- what holds of the new cell, and of each other one as before, holds of all
-    each-cell : (Q : ℕ → ℕ → ℕ → Type 0) → Q x.task x.signal (joinedOf x.right c) → ((k s : ℕ) → (k ≡ x.task → s ≡ x.signal → ⊥) → Q k s (cell_at b.grid k s)) → (k s : ℕ) → Q k s (cell_at (putCell b.grid x) k s)
-    each-cell Q here there k s =
-        let at = stored_here b.grid K.shaped x.task x.signal (joinedOf x.right c) (omega (arith, f.names.task)) (omega (arith, f.names.signal)) in
-        let off = stored_there b.grid K.shaped x.task x.signal (joinedOf x.right c) (omega (arith, f.names.task)) (omega (arith, f.names.signal)) in
+    each_cell : (Q : ℕ → ℕ → ℕ → Type 0) → Q x.task x.signal (joined_of x.right c) → ((k s : ℕ) → (k ≡ x.task → s ≡ x.signal → ⊥) → Q k s (cell_at b.grid k s)) → (k s : ℕ) → Q k s (cell_at (put_cell b.grid x) k s)
+    each_cell Q here there k s =
+        let at = stored_here b.grid K.shaped x.task x.signal (joined_of x.right c) (omega (arith, f.names.task)) (omega (arith, f.names.signal)) in
+        let off = stored_there b.grid K.shaped x.task x.signal (joined_of x.right c) (omega (arith, f.names.task)) (omega (arith, f.names.signal)) in
         split (eqb k x.task && eqb s x.signal)
         (λ q.
         let e = both (eqb k x.task) (eqb s x.signal) q in
         rw (eqb-true k x.task e.0, eqb-true s x.signal e.1, at) here)
         (λ q.
-        let n : k ≡ x.task → s ≡ x.signal → ⊥ = λ y z. not-both (and_is (eq-eqb k x.task y) (eq-eqb s x.signal z)) q in
+        let n : k ≡ x.task → s ≡ x.signal → ⊥ = λ y z. not_both (and_is (eq-eqb k x.task y) (eq-eqb s x.signal z)) q in
         rw (off k s n) (there k s n))
 
-    put-kept : Kept (putMarked b x)
-    put-kept = record {
-      shaped = stored-shaped b.grid K.shaped x.task x.signal (joinedOf x.right c) (omega (arith, f.names.task)) (omega (arith, f.names.signal));
-      reads = each-cell (λ k s n. 1 ≤ n → key_of (access k s 1) ≤ key_of x) (λ h. omega (arith, f.names.some_right)) (λ k s n h. omega (arith, K.reads k s h, f.after));
-      writes = each-cell (λ k s n. 2 ≤ n → key_of (access k s 2) ≤ key_of x) (λ h. omega (arith, joined.0 h)) (λ k s n h. omega (arith, K.writes k s h, f.after));
+    put_kept : Kept (put_marked b x)
+    put_kept = record {
+      shaped = stored_shaped b.grid K.shaped x.task x.signal (joined_of x.right c) (omega (arith, f.names.task)) (omega (arith, f.names.signal));
+      reads = each_cell (λ k s n. 1 ≤ n → key_of (access k s 1) ≤ key_of x) (λ h. omega (arith, f.names.some_right)) (λ k s n h. omega (arith, K.reads k s h, f.after));
+      writes = each_cell (λ k s n. 2 ≤ n → key_of (access k s 2) ≤ key_of x) (λ h. omega (arith, joined.0 h)) (λ k s n h. omega (arith, K.writes k s h, f.after));
     }
 
-    put_has : (y : Access) → 0 < y.right → y.right < 3 → (hasRight (putCell b.grid x) y ≡ true) ↔ ((x ≡ y) ⊎ (hasRight b.grid y ≡ true))
+    put_has : (y : Access) → 0 < y.right → y.right < 3 → (has_right (put_cell b.grid x) y ≡ true) ↔ ((x ≡ y) ⊎ (has_right b.grid y ≡ true))
     put_has y h l =
-        each-cell (λ k s n. (eqb (n / y.right % 2) 1 ≡ true) ↔ ((x ≡ access k s y.right) ⊎ (eqb (cell_at b.grid k s / y.right % 2) 1 ≡ true)))
+        each_cell (λ k s n. (eqb (n / y.right % 2) 1 ≡ true) ↔ ((x ≡ access k s y.right) ⊎ (eqb (cell_at b.grid k s / y.right % 2) 1 ≡ true)))
         ((λ e. here (or_cases (eqb y.right x.right) (eqb (c / y.right % 2) 1) (sym (joined.1 y.right h l) ∙ e))), λ o. joined.1 y.right h l ∙ back o)
         (λ k s n. (inr, λ o. there k s n o))
         y.task y.signal
@@ -155,19 +155,19 @@ module _ (bytes : List ℕ) (tasks signals : ℕ) (few-tasks : tasks ≤ mostTas
   -- ---- all of them
 
   abbrev kind : Kind Access Marked
-  kind = accessKind bytes tasks signals
+  kind = access_kind bytes tasks signals
 
-  grid-has : (xs : List Access) (b : Marked) → Kept b → Fitting kind b xs → (y : Access) → 0 < y.right → y.right < 3 → (hasRight (puts kind b xs).grid y ≡ true) ↔ (In y xs ⊎ (hasRight b.grid y ≡ true))
-  grid-has [] b K f y h l = (inr, none)
+  grid_has : (xs : List Access) (b : Marked) → Kept b → Fitting kind b xs → (y : Access) → 0 < y.right → y.right < 3 → (has_right (puts kind b xs).grid y ≡ true) ↔ (In y xs ⊎ (has_right b.grid y ≡ true))
+  grid_has [] b K f y h l = (inr, none)
     where
-      none : ⊥ ⊎ (hasRight b.grid y ≡ true) → hasRight b.grid y ≡ true
+      none : ⊥ ⊎ (has_right b.grid y ≡ true) → has_right b.grid y ≡ true
       none (inl z) = absurd z
       none (inr e) = e
-  grid-has (x ∷ xs) b K f y h l = and_then (grid-has xs (putMarked b x) (put-kept b x f.0 K) f.1 y h l) (put_has b x f.0 K y h l)
+  grid_has (x ∷ xs) b K f y h l = and_then (grid_has xs (put_marked b x) (put_kept b x f.0 K) f.1 y h l) (put_has b x f.0 K y h l)
 
-  follow-rise : (xs : List Access) (b : Marked) → Fitting kind b xs → Rising key_of (suc (key_of b.accesses.last)) xs (suc (key_of (puts kind b xs).accesses.last))
-  follow-rise [] b f = omega arith
-  follow-rise (x ∷ xs) b f = (f.0.after, follow-rise xs (putMarked b x) f.1)
+  follow_rise : (xs : List Access) (b : Marked) → Fitting kind b xs → Rising key_of (suc (key_of b.accesses.last)) xs (suc (key_of (puts kind b xs).accesses.last))
+  follow_rise [] b f = omega arith
+  follow_rise (x ∷ xs) b f = (f.0.after, follow_rise xs (put_marked b x) f.1)
 
 -- ---- the table that was read has those accesses
 
@@ -181,43 +181,43 @@ blank zero m k s = refl
 blank (suc n) m zero s = zeros m s
 blank (suc n) m (suc k) s = blank n m k s
 
-no_cell : (k s : ℕ) → cell_at noGrid k s ≡ 0
-no_cell = blank mostTasks mostSignals
+no_cell : (k s : ℕ) → cell_at no_grid k s ≡ 0
+no_cell = blank most_tasks most_signals
 
-none_kept : Kept noMarked
+none_kept : Kept no_marked
 none_kept = record {
-  shaped = record { rows = refl; columns = λ k h. ap length (get_or-replicate mostTasks k (replicate mostSignals 0) [] h) };
+  shaped = record { rows = refl; columns = λ k h. ap length (get_or-replicate most_tasks k (replicate most_signals 0) [] h) };
   reads = λ k s h. absurd (omega (arith, no_cell k s));
   writes = λ k s h. absurd (omega (arith, no_cell k s));
 }
 
-module _ (bytes : List ℕ) (ts : Tasks) (ds : Signals) (few-tasks : ts.count ≤ mostTasks) (few-signals : ds.count ≤ mostSignals) where
-  allowed-is : (g : Grid) (k s r : ℕ) → 0 < r → r < 3 → allowed (table_of ts ds g) (access k s r) ≡ hasRight g (access k s r)
-  unfolding readsIn writesIn
-  allowed-is g k s = each_right (λ r. allowed (table_of ts ds g) (access k s r) ≡ hasRight g (access k s r)) (rw (div-one (cell_at g k s))) refl
+module _ (bytes : List ℕ) (ts : Tasks) (ds : Signals) (few_tasks : ts.count ≤ most_tasks) (few_signals : ds.count ≤ most_signals) where
+  allowed_is : (g : Grid) (k s r : ℕ) → 0 < r → r < 3 → allowed (table_of ts ds g) (access k s r) ≡ has_right g (access k s r)
+  unfolding reads_in writes_in
+  allowed_is g k s = each_right (λ r. allowed (table_of ts ds g) (access k s r) ≡ has_right g (access k s r)) (rw (div-one (cell_at g k s))) refl
 
-  pub grid-lists : (xs : List Access) → Fitting (accessKind bytes ts.count ds.count) noMarked xs → accessList (table_of ts ds (puts (accessKind bytes ts.count ds.count) noMarked xs).grid) ≡ xs
-  grid-lists xs f = rising-same key_of 1 _ _ (accessList tab) xs (accesses-rise tab (omega arith)) (follow-rise bytes ts.count ds.count few-tasks few-signals xs noMarked f) to from
+  pub grid_lists : (xs : List Access) → Fitting (access_kind bytes ts.count ds.count) no_marked xs → access_list (table_of ts ds (puts (access_kind bytes ts.count ds.count) no_marked xs).grid) ≡ xs
+  grid_lists xs f = rising_same key_of 1 _ _ (access_list tab) xs (accesses_rise tab (omega arith)) (follow_rise bytes ts.count ds.count few_tasks few_signals xs no_marked f) to from
     where
       g : Grid
-      g = (puts (accessKind bytes ts.count ds.count) noMarked xs).grid
+      g = (puts (access_kind bytes ts.count ds.count) no_marked xs).grid
 
       tab : Table
       tab = table_of ts ds g
 
-      has : (y : Access) → 0 < y.right → y.right < 3 → (hasRight g y ≡ true) ↔ (In y xs ⊎ (hasRight noGrid y ≡ true))
-      has = grid-has bytes ts.count ds.count few-tasks few-signals xs noMarked none_kept f
+      has : (y : Access) → 0 < y.right → y.right < 3 → (has_right g y ≡ true) ↔ (In y xs ⊎ (has_right no_grid y ≡ true))
+      has = grid_has bytes ts.count ds.count few_tasks few_signals xs no_marked none_kept f
 
-      new : (y : Access) → In y xs ⊎ (hasRight noGrid y ≡ true) → In y xs
+      new : (y : Access) → In y xs ⊎ (has_right no_grid y ≡ true) → In y xs
       new y (inl i) = i
-      new y (inr e) = absurd (not-both e (rw (no_cell y.task y.signal, zero-div y.right)))
+      new y (inr e) = absurd (not_both e (rw (no_cell y.task y.signal, zero-div y.right)))
 
-      to : (y : Access) → In y (accessList tab) → In y xs
+      to : (y : Access) → In y (access_list tab) → In y xs
       to y i =
-          let h = all_in (Has tab) (accessList tab) (all-has tab) y i in
-          new y ((has y h.names.some_right h.names.right).0 (sym (allowed-is g y.task y.signal y.right h.names.some_right h.names.right) ∙ h.allows))
+          let h = all_in (Has tab) (access_list tab) (all_has tab) y i in
+          new y ((has y h.names.some_right h.names.right).0 (sym (allowed_is g y.task y.signal y.right h.names.some_right h.names.right) ∙ h.allows))
 
-      from : (y : Access) → In y xs → In y (accessList tab)
+      from : (y : Access) → In y xs → In y (access_list tab)
       from y i =
-          let n = all_in (Names ts.count ds.count) xs (fitting-all (accessKind bytes ts.count ds.count) (Names ts.count ds.count) (λ b x f. f.names) noMarked xs f) y i in
-          in-accesses tab y (record { names = n; allows = allowed-is g y.task y.signal y.right n.some_right n.right ∙ (has y n.some_right n.right).1 (inl i) })
+          let n = all_in (Names ts.count ds.count) xs (fitting_all (access_kind bytes ts.count ds.count) (Names ts.count ds.count) (λ b x f. f.names) no_marked xs f) y i in
+          in_accesses tab y (record { names = n; allows = allowed_is g y.task y.signal y.right n.some_right n.right ∙ (has y n.some_right n.right).1 (inl i) })

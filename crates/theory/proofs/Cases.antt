@@ -5,8 +5,8 @@ use mathlib.Core.Bool.{Bool, true, false}
 use mathlib.Core.List.{List, [], ◌∷◌, map}
 use lib.ListN.{get_or}
 use Rattle.rules.specs.Words.{gather}
-use Rattle.rules.specs.Euclid.{gcdIn, gcdOf, lcmOf}
-use Rattle.rules.specs.Windows.{Table, lcmAll, hyper}
+use Rattle.rules.specs.Euclid.{gcd_in, gcd_of, lcm_of}
+use Rattle.rules.specs.Windows.{Table, lcm_all, hyper}
 use Rattle.rules.specs.Cases.{A, D, table, writer, reader}
 use Rattle.theory.specs.Sweep.{events, through, acted, sweep}
 
@@ -42,11 +42,11 @@ sents =
     ∷ sent (table 2 1 (writer 0 4 10 ∷ writer 2 6 10 ∷ [])) (1 ∷ 1 ∷ []) [] false
     ∷ []
 
-pub as-swept : map found sents ≡ map (λ (x : Sent). x.right) sents
-unfolding gather gcdIn gcdOf lcmOf lcmAll hyper events through acted sweep
-as-swept = refl
+pub as_swept : map found sents ≡ map (λ (x : Sent). x.right) sents
+unfolding gather gcd_in gcd_of lcm_of lcm_all hyper events through acted sweep
+as_swept = refl
 
 -- A: both open at 0, task 0 closes at 4, task 1 closes and opens at 5 and closes at 10
-pub events-A : events A ≡ 16 ∷ 17 ∷ 128 ∷ 161 ∷ 177 ∷ 321 ∷ []
-unfolding gather gcdIn gcdOf lcmOf lcmAll hyper events
-events-A = refl
+pub events_A : events A ≡ 16 ∷ 17 ∷ 128 ∷ 161 ∷ 177 ∷ 321 ∷ []
+unfolding gather gcd_in gcd_of lcm_of lcm_all hyper events
+events_A = refl

@@ -10,12 +10,12 @@ use Rattle.rules.specs.Stores.{Memory, Place, in_words, nowhere, get, put, word_
 use Rattle.theory.specs.Places.{Sized, Inside, Apart}
 
 -- nothing is stored nowhere
-pub nowhere-apart : (p q : Place) → p ≡ nowhere → Apart p q
-nowhere-apart p q e = rw e tt
+pub nowhere_apart : (p q : Place) → p ≡ nowhere → Apart p q
+nowhere_apart p q e = rw e tt
 
-pub somewhere-apart : (p q : Place) → ((p ≡ nowhere → ⊥) → Apart p q) → Apart p q
-somewhere-apart (in_words a) q f = f (λ e. let z : ◌≡◌ {A = ℕ} 0 1 = cc in omega arith)
-somewhere-apart nowhere q f = tt
+pub somewhere_apart : (p q : Place) → ((p ≡ nowhere → ⊥) → Apart p q) → Apart p q
+somewhere_apart (in_words a) q f = f (λ e. let z : ◌≡◌ {A = ℕ} 0 1 = cc in omega arith)
+somewhere_apart nowhere q f = tt
 
 pub put_other : (m : Memory) (p q : Place) (c : Content) → Apart p q → get (put m p c) q ≡ get m q
 unfolding put get
@@ -24,10 +24,10 @@ put_other m (in_words a) nowhere c f = refl
 put_other m nowhere q c f = refl
 
 module _ (tab : Table) where
-  pub put-sized : (m : Memory) (p : Place) (c : Content) → Sized tab m → Sized tab (put m p c)
+  pub put_sized : (m : Memory) (p : Place) (c : Content) → Sized tab m → Sized tab (put m p c)
   unfolding put
-  put-sized m (in_words a) c z = length-set m.block a (word_in c) ∙ z
-  put-sized m nowhere c z = z
+  put_sized m (in_words a) c z = length-set m.block a (word_in c) ∙ z
+  put_sized m nowhere c z = z
 
   pub put_same : (m : Memory) (p : Place) (c : Content) → Sized tab m → Inside tab p → get (put m p c) p ≡ c
   unfolding put get

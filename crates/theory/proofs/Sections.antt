@@ -50,24 +50,24 @@ module _ {A B : Type 0} (K : Kind A B) where
   Fitting b (x ∷ xs) = K.Fit b x × Fitting (K.put b x) xs
 
   -- what each record that fits keeps, all keep
-  pub puts-keep : (Q : B → Type 0) → ((b : B) (x : A) → K.Fit b x → Q b → Q (K.put b x)) → (b : B) (xs : List A) → Fitting b xs → Q b → Q (puts b xs)
-  puts-keep Q keep b [] f q = q
-  puts-keep Q keep b (x ∷ xs) f q = puts-keep Q keep (K.put b x) xs f.1 (keep b x f.0 q)
+  pub puts_keep : (Q : B → Type 0) → ((b : B) (x : A) → K.Fit b x → Q b → Q (K.put b x)) → (b : B) (xs : List A) → Fitting b xs → Q b → Q (puts b xs)
+  puts_keep Q keep b [] f q = q
+  puts_keep Q keep b (x ∷ xs) f q = puts_keep Q keep (K.put b x) xs f.1 (keep b x f.0 q)
 
   -- what makes a record fit holds of each
-  pub fitting-all : (Q : A → Type 0) → ((b : B) (x : A) → K.Fit b x → Q x) → (b : B) (xs : List A) → Fitting b xs → All Q xs
-  fitting-all Q keep b [] f = tt
-  fitting-all Q keep b (x ∷ xs) f = (keep b x f.0, fitting-all Q keep (K.put b x) xs f.1)
+  pub fitting_all : (Q : A → Type 0) → ((b : B) (x : A) → K.Fit b x → Q x) → (b : B) (xs : List A) → Fitting b xs → All Q xs
+  fitting_all Q keep b [] f = tt
+  fitting_all Q keep b (x ∷ xs) f = (keep b x f.0, fitting_all Q keep (K.put b x) xs f.1)
 
   -- each record counts as one
-  pub puts-count : (count : B → ℕ) → ((b : B) (x : A) → count (K.put b x) ≡ count b + 1) → (b : B) (xs : List A) → count (puts b xs) ≡ count b + length xs
-  puts-count count one b [] = sym (add-zero (count b))
-  puts-count count one b (x ∷ xs) = omega (arith, puts-count count one (K.put b x) xs, one b x)
+  pub puts_count : (count : B → ℕ) → ((b : B) (x : A) → count (K.put b x) ≡ count b + 1) → (b : B) (xs : List A) → count (puts b xs) ≡ count b + length xs
+  puts_count count one b [] = sym (add-zero (count b))
+  puts_count count one b (x ∷ xs) = omega (arith, puts_count count one (K.put b x) xs, one b x)
 
   -- records are fit one after the other if the first is, and what it leaves to the others
-  pub fitting-from : (Q : B → List A → Type 0) → ((b : B) (x : A) (xs : List A) → Q b (x ∷ xs) → K.Fit b x × Q (K.put b x) xs) → (b : B) (xs : List A) → Q b xs → Fitting b xs
-  fitting-from Q next b [] q = tt
-  fitting-from Q next b (x ∷ xs) q = let r = next b x xs q in (r.0, fitting-from Q next (K.put b x) xs r.1)
+  pub fitting_from : (Q : B → List A → Type 0) → ((b : B) (x : A) (xs : List A) → Q b (x ∷ xs) → K.Fit b x × Q (K.put b x) xs) → (b : B) (xs : List A) → Q b xs → Fitting b xs
+  fitting_from Q next b [] q = tt
+  fitting_from Q next b (x ∷ xs) q = let r = next b x xs q in (r.0, fitting_from Q next (K.put b x) xs r.1)
 
   -- ---- records that are put into a list of so many places, the first `count` of them in use
 
@@ -75,28 +75,28 @@ module _ {A B : Type 0} (K : Kind A B) where
     pub list : B → List A
     pub count : B → ℕ
     pub most : ℕ
-    pub put-list : (b : B) (x : A) → list (K.put b x) ≡ set (list b) (count b) x
+    pub put_list : (b : B) (x : A) → list (K.put b x) ≡ set (list b) (count b) x
     pub put_count : (b : B) (x : A) → count (K.put b x) ≡ count b + 1
     pub few : (b : B) (x : A) → K.Fit b x → count b < most
 
   module _ (P : Places) where
-    pub places-few : (b : B) (xs : List A) → Fitting b xs → P.count b ≤ P.most → P.count (puts b xs) ≤ P.most
-    places-few = puts-keep (λ b. P.count b ≤ P.most) (λ b x f q. omega (arith, P.few b x f, P.put_count b x))
+    pub places_few : (b : B) (xs : List A) → Fitting b xs → P.count b ≤ P.most → P.count (puts b xs) ≤ P.most
+    places_few = puts_keep (λ b. P.count b ≤ P.most) (λ b x f q. omega (arith, P.few b x f, P.put_count b x))
 
-    places-held : (b : B) (xs : List A) → length (P.list b) ≡ P.most → Fitting b xs → take (P.count (puts b xs)) (P.list (puts b xs)) ≡ take (P.count b) (P.list b) ++ xs
-    places-held b [] l f = sym (append-nil _)
-    places-held b (x ∷ xs) l f =
+    places_held : (b : B) (xs : List A) → length (P.list b) ≡ P.most → Fitting b xs → take (P.count (puts b xs)) (P.list (puts b xs)) ≡ take (P.count b) (P.list b) ++ xs
+    places_held b [] l f = sym (append-nil _)
+    places_held b (x ∷ xs) l f =
         let one : take (P.count (K.put b x)) (P.list (K.put b x)) ≡ take (P.count b) (P.list b) ++ x ∷ [] =
-        rw (P.put-list b x, P.put_count b x, add-one) (take-suc-set (P.list b) (P.count b) x (omega (arith, P.few b x f.0))) in
-        places-held (K.put b x) xs (rw (P.put-list b x) (length-set (P.list b) (P.count b) x ∙ l)) f.1
+        rw (P.put_list b x, P.put_count b x, add-one) (take-suc-set (P.list b) (P.count b) x (omega (arith, P.few b x f.0))) in
+        places_held (K.put b x) xs (rw (P.put_list b x) (length-set (P.list b) (P.count b) x ∙ l)) f.1
         ∙ ap {B = List A} (λ r. r ++ xs) one
         ∙ append_snoc (take (P.count b) (P.list b)) x xs
 
     -- from none on, each stands at its place
-    pub places-at : (d : A) (b : B) (xs : List A) → length (P.list b) ≡ P.most → P.count b ≡ 0 → Fitting b xs → (k : ℕ) → k < length xs → get_or (P.list (puts b xs)) k d ≡ get_or xs k d
-    places-at d b xs l z f k h =
-        sym (get_or-take (P.count (puts b xs)) (P.list (puts b xs)) k d (omega (arith, puts-count P.count P.put_count b xs)))
-        ∙ ap (λ r. get_or r k d) (places-held b xs l f ∙ ap {B = List A} (λ n. take n (P.list b) ++ xs) z)
+    pub places_at : (d : A) (b : B) (xs : List A) → length (P.list b) ≡ P.most → P.count b ≡ 0 → Fitting b xs → (k : ℕ) → k < length xs → get_or (P.list (puts b xs)) k d ≡ get_or xs k d
+    places_at d b xs l z f k h =
+        sym (get_or-take (P.count (puts b xs)) (P.list (puts b xs)) k d (omega (arith, puts_count P.count P.put_count b xs)))
+        ∙ ap (λ r. get_or r k d) (places_held b xs l f ∙ ap {B = List A} (λ n. take n (P.list b) ++ xs) z)
 
   module _ (bytes : List ℕ) where
     -- what a step gives is right: a record that fits, with its bytes, or a refusal with its number
@@ -154,10 +154,10 @@ module _ {A B : Type 0} (K : Kind A B) where
           ∙ ap (section K.step K.put n (puts (K.put b x) xs)) far)
 
       -- and where the next mark is another, the section ends there
-      pub takes-section : (most : ℕ) (xs : List A) (b : B) (p : ℕ) (rest : List ℕ) → length xs ≤ most → Fitting b xs → All K.Bounded xs → drop p bytes ≡ flat_map K.form xs ++ rest
+      pub takes_section : (most : ℕ) (xs : List A) (b : B) (p : ℕ) (rest : List ℕ) → length xs ≤ most → Fitting b xs → All K.Bounded xs → drop p bytes ≡ flat_map K.form xs ++ rest
           → ((c : B) (q : ℕ) → drop q bytes ≡ rest → K.step c q ≡ Step.other)
           → section K.step K.put (suc most) b p ≡ record { read = puts b xs; end = End.at (p + length (flat_map K.form xs)) }
       unfolding section
-      takes-section most xs b p rest l f w d o =
+      takes_section most xs b p rest l f w d o =
           takes_all xs (suc most) (suc (most - length xs)) b p rest (omega arith) f w d
           ∙ rw (o (puts b xs) (p + length (flat_map K.form xs)) (after bytes p (flat_map K.form xs) rest d))

@@ -2,29 +2,29 @@
 use Rattle.std.specs.Prelude.{ℕ, suc, ◌+◌, ◌-◌, ◌≤◌, ◌<◌, max, List, ◌⊎◌, ◌≡◌, T, length, get_or, set, take, replicate}
 use Rattle.rules.specs.Words.{total}
 use Rattle.rules.specs.Windows.{Table, closes, instance, instances}
-use Rattle.rules.specs.Table.{mostTasks, mostUses, Fits}
+use Rattle.rules.specs.Table.{most_tasks, most_uses, Fits}
 use Rattle.rules.specs.Schedule.{Schedule, most}
 use Rattle.rules.specs.Plan.{plan}
-use Rattle.rules.specs.Bytes.{Part, bf, wi, ri, free, writersBelow, readersBelow}
-use Rattle.theory.specs.Untils.{firstFree}
-use Rattle.theory.specs.Sweep.{never, noneHeld, events, through, acted}
+use Rattle.rules.specs.Bytes.{Part, bf, wi, ri, free, writers_below, readers_below}
+use Rattle.theory.specs.Untils.{first_free}
+use Rattle.theory.specs.Sweep.{never, none_held, events, through, acted}
 
 -- ---- the uses of a table, numbered as their records stand in a schedule
 
 module _ (tab : Table) where
   -- how many records of writer and reader instances signal s has
-  abbrev pub usesOf : ℕ → ℕ
-  usesOf s = writersBelow tab s tab.tasks + readersBelow tab s tab.tasks
+  abbrev pub uses_of : ℕ → ℕ
+  uses_of s = writers_below tab s tab.tasks + readers_below tab s tab.tasks
 
   -- and the signals below s together
-  unfoldable pub firstUse : ℕ → ℕ
-  firstUse s = total usesOf s
+  unfoldable pub first_use : ℕ → ℕ
+  first_use s = total uses_of s
 
   -- the number of a record among them
-  abbrev pub useOf : Part → ℕ
-  useOf (bf s) = firstUse s
-  useOf (wi s k i) = firstUse s + writersBelow tab s k + i
-  useOf (ri s k i) = firstUse s + writersBelow tab s tab.tasks + readersBelow tab s k + i
+  abbrev pub use_of : Part → ℕ
+  use_of (bf s) = first_use s
+  use_of (wi s k i) = first_use s + writers_below tab s k + i
+  use_of (ri s k i) = first_use s + writers_below tab s tab.tasks + readers_below tab s k + i
 
   -- x is the record of a writer or a reader instance of signal s
   abbrev pub IsUse : ℕ → Part → Type 0
@@ -46,8 +46,8 @@ pub record Choice : Type 0 where
   pub uses : List ℕ
 
 -- the lowest element that is not held past t; the last one is free where the others are not
-abbrev pub freeElement : Table → List ℕ → ℕ → ℕ
-freeElement tab held t = firstFree (take (most tab - 1) held) t
+abbrev pub free_element : Table → List ℕ → ℕ → ℕ
+free_element tab held t = first_free (take (most tab - 1) held) t
 
 -- a reader, use number u, gets the element that stands, and closes at tick b
 abbrev pub sent : Choice → (u b : ℕ) → Choice
@@ -85,11 +85,11 @@ followed c k b = record {
 module _ (tab : Table) (s : ℕ) where
   -- a reader opens at tick t
   abbrev pub reads : Choice → ℕ → ℕ → Choice
-  reads c k t = sent c (useOf tab (ri s k (instance tab k t))) (closes tab k (instance tab k t))
+  reads c k t = sent c (use_of tab (ri s k (instance tab k t))) (closes tab k (instance tab k t))
 
   -- a writer opens at tick t
   abbrev pub takes : Choice → ℕ → ℕ → Choice
-  takes c k t = taken c (useOf tab (wi s k (instance tab k t))) k (freeElement tab c.held t)
+  takes c k t = taken c (use_of tab (wi s k (instance tab k t))) k (free_element tab c.held t)
 
   -- a writer whose window ends with tick t publishes at t + 1
   abbrev pub publishes : Choice → ℕ → ℕ → Choice
@@ -100,7 +100,7 @@ module _ (tab : Table) (s : ℕ) where
 
   -- at the start the carried value stands in element 0
   abbrev pub unchosen : List ℕ → Choice
-  unchosen uses = record { held = set (noneHeld (most tab)) 0 never; own = replicate mostTasks 0; current = 0; reach = 0; count = 1; uses = uses }
+  unchosen uses = record { held = set (none_held (most tab)) 0 never; own = replicate most_tasks 0; current = 0; reach = 0; count = 1; uses = uses }
 
   unfoldable pub chosen : List ℕ → Choice
   chosen uses = through choose (unchosen uses) (events tab)
@@ -110,8 +110,8 @@ module _ (tab : Table) (s : ℕ) where
 -- The elements of the uses of signal s are those of schedule E, and all others stay.
 pub record SignalUses (tab : Table) (E : Schedule) (s : ℕ) (before after : List ℕ) : Type 0 where
   pub size : length after ≡ length before
-  pub right : (x : Part) → IsUse tab s x → get_or after (useOf tab x) 0 ≡ free E x
-  pub outside : (u : ℕ) → (u < firstUse tab s) ⊎ (firstUse tab (suc s) ≤ u) → get_or after u 0 ≡ get_or before u 0
+  pub right : (x : Part) → IsUse tab s x → get_or after (use_of tab x) 0 ≡ free E x
+  pub outside : (u : ℕ) → (u < first_use tab s) ⊎ (first_use tab (suc s) ≤ u) → get_or after u 0 ≡ get_or before u 0
 
 -- It gives the plan's elements, and the plan's count.
 pub record ChoosesPlan (tab : Table) (s : ℕ) (uses : List ℕ) : Type 0 where
@@ -119,4 +119,4 @@ pub record ChoosesPlan (tab : Table) (s : ℕ) (uses : List ℕ) : Type 0 where
   pub count : (chosen tab s uses).count ≡ (plan tab).count s
 
 abbrev pub PlanChosen : Table → Type 0
-PlanChosen tab = Fits tab → (s : ℕ) → s < tab.signals → (uses : List ℕ) → length uses ≡ mostUses → ChoosesPlan tab s uses
+PlanChosen tab = Fits tab → (s : ℕ) → s < tab.signals → (uses : List ℕ) → length uses ≡ most_uses → ChoosesPlan tab s uses

@@ -2,40 +2,40 @@
 use Rattle.std.specs.Prelude.{ℕ, suc, ◌+◌, ◌*◌, ◌-◌, ◌/◌, ◌%◌, ◌≤◌, ◌<◌, max, Bool, true, ◌&&◌, cond, List, [], ◌∷◌, ◌++◌, ◌↔◌, ◌≡◌, T, leb, eqb, get_or, set, replicate}
 use Rattle.rules.specs.Words.{gather, only}
 use Rattle.rules.specs.Windows.{Table, opens, closes, instance, instances, hyper}
-use Rattle.rules.specs.Values.{Value, signalOf, bound, Live, IsValue}
-use Rattle.rules.specs.Table.{mostTasks, longest, Fits}
-use Rattle.rules.specs.Schedule.{Schedule, most, room, elementOf, base, Passes}
+use Rattle.rules.specs.Values.{Value, signal_of, bound, Live, IsValue}
+use Rattle.rules.specs.Table.{most_tasks, longest, Fits}
+use Rattle.rules.specs.Schedule.{Schedule, most, room, element_of, base, Passes}
 
 -- ---- openings and closings as numbers that rise by tick, closings before openings, then by task
 
-abbrev pub closingNumber : ℕ → ℕ → ℕ
-closingNumber t k = t * 2 * mostTasks + k
+abbrev pub closing_number : ℕ → ℕ → ℕ
+closing_number t k = t * 2 * most_tasks + k
 
-abbrev pub openingNumber : ℕ → ℕ → ℕ
-openingNumber t k = (t * 2 + 1) * mostTasks + k
+abbrev pub opening_number : ℕ → ℕ → ℕ
+opening_number t k = (t * 2 + 1) * most_tasks + k
 
 -- what such a number says
-abbrev pub taskIn : ℕ → ℕ
-taskIn n = n % mostTasks
+abbrev pub task_in : ℕ → ℕ
+task_in n = n % most_tasks
 
-abbrev pub tickIn : ℕ → ℕ
-tickIn n = n / mostTasks / 2
+abbrev pub tick_in : ℕ → ℕ
+tick_in n = n / most_tasks / 2
 
-abbrev pub isOpening : ℕ → Bool
-isOpening n = eqb (n / mostTasks % 2) 1
+abbrev pub is_opening : ℕ → Bool
+is_opening n = eqb (n / most_tasks % 2) 1
 
 module _ (tab : Table) where
   -- the tasks that open at tick t
-  abbrev pub openingsAt : ℕ → List ℕ
-  openingsAt t = gather tab.tasks (λ k. only (eqb (opens tab k (instance tab k t)) t) (openingNumber t k))
+  abbrev pub openings_at : ℕ → List ℕ
+  openings_at t = gather tab.tasks (λ k. only (eqb (opens tab k (instance tab k t)) t) (opening_number t k))
 
   -- those that close at tick t + 1
-  abbrev pub closingsAfter : ℕ → List ℕ
-  closingsAfter t = gather tab.tasks (λ k. only (eqb (closes tab k (instance tab k t)) (suc t)) (closingNumber (suc t) k))
+  abbrev pub closings_after : ℕ → List ℕ
+  closings_after t = gather tab.tasks (λ k. only (eqb (closes tab k (instance tab k t)) (suc t)) (closing_number (suc t) k))
 
   -- all of one hyper-period in their order
   unfoldable pub events : List ℕ
-  events = gather (hyper tab) (λ t. openingsAt t ++ closingsAfter t)
+  events = gather (hyper tab) (λ t. openings_at t ++ closings_after t)
 
 -- ---- the pass
 
@@ -54,7 +54,7 @@ closed tab s publishes a k t = cond (tab.writes s k) (publishes a k t) a
 
 -- what the opening or closing with number n does
 unfoldable pub acted : {A : Type 0} → Table → ℕ → (reads writes publishes : A → ℕ → ℕ → A) → A → ℕ → A
-acted tab s reads writes publishes a n = cond (isOpening n) (opened tab s reads writes a (taskIn n) (tickIn n)) (closed tab s publishes a (taskIn n) (tickIn n - 1))
+acted tab s reads writes publishes a n = cond (is_opening n) (opened tab s reads writes a (task_in n) (tick_in n)) (closed tab s publishes a (task_in n) (tick_in n - 1))
 
 -- What is known after some of them: no mistake was met; the tick until which each element is held; the element of the value that stands;
 -- the last closing of the readers that opened since it was published.
@@ -68,8 +68,8 @@ pub record Pass : Type 0 where
 abbrev pub never : ℕ
 never = longest
 
-abbrev pub noneHeld : ℕ → List ℕ
-noneHeld n = replicate n 0
+abbrev pub none_held : ℕ → List ℕ
+none_held n = replicate n 0
 
 -- a reader opens with its element, and closes at tick c
 abbrev pub reading : Pass → ℕ → ℕ → Pass
@@ -85,22 +85,22 @@ publishing p e t = record { right = p.right; held = set p.held p.current (max t 
 
 module _ (tab : Table) (E : Schedule) (s : ℕ) where
   -- task k opens at tick t as a reader, or as a writer
-  abbrev pub readerOpens : Pass → ℕ → ℕ → Pass
-  readerOpens p k t = reading p (E.reader s k (instance tab k t)) (closes tab k (instance tab k t))
+  abbrev pub reader_opens : Pass → ℕ → ℕ → Pass
+  reader_opens p k t = reading p (E.reader s k (instance tab k t)) (closes tab k (instance tab k t))
 
-  abbrev pub writerOpens : Pass → ℕ → ℕ → Pass
-  writerOpens p k t = writing p (E.writer s k (instance tab k t)) t
+  abbrev pub writer_opens : Pass → ℕ → ℕ → Pass
+  writer_opens p k t = writing p (E.writer s k (instance tab k t)) t
 
   -- its window ends with tick t
-  abbrev pub writerCloses : Pass → ℕ → ℕ → Pass
-  writerCloses p k t = publishing p (E.writer s k (instance tab k t)) (suc t)
+  abbrev pub writer_closes : Pass → ℕ → ℕ → Pass
+  writer_closes p k t = publishing p (E.writer s k (instance tab k t)) (suc t)
 
   abbrev pub handled : Pass → ℕ → Pass
-  handled = acted tab s readerOpens writerOpens writerCloses
+  handled = acted tab s reader_opens writer_opens writer_closes
 
   -- at the start the carried value stands in element 0
   abbrev pub started : Pass
-  started = record { right = true; held = set (noneHeld (most tab)) 0 never; current = 0; reach = 0 }
+  started = record { right = true; held = set (none_held (most tab)) 0 never; current = 0; reach = 0 }
 
   unfoldable pub sweep : Pass
   sweep = through handled started (events tab)
@@ -109,19 +109,19 @@ module _ (tab : Table) (E : Schedule) (s : ℕ) where
 
 -- what a schedule that passes keeps of signal s: each reader is sent to what it is bound to, and no two values live at one tick have one element
 pub record SignalPasses (tab : Table) (E : Schedule) (s : ℕ) : Type 0 where
-  pub binds : (k i : ℕ) → k < tab.tasks → T (tab.reads s k) → i < instances tab k → E.reader s k i ≡ elementOf E (bound tab s (opens tab k i))
-  pub apart : (u v : Value) (t : ℕ) → IsValue tab u → IsValue tab v → signalOf u ≡ s → signalOf v ≡ s → Live tab u t → Live tab v t → elementOf E u ≡ elementOf E v → u ≡ v
+  pub binds : (k i : ℕ) → k < tab.tasks → T (tab.reads s k) → i < instances tab k → E.reader s k i ≡ element_of E (bound tab s (opens tab k i))
+  pub apart : (u v : Value) (t : ℕ) → IsValue tab u → IsValue tab v → signal_of u ≡ s → signal_of v ≡ s → Live tab u t → Live tab v t → element_of E u ≡ element_of E v → u ≡ v
 
 -- Where the elements of a signal's values are elements at all, the pass meets no mistake exactly if the signal passes.
 abbrev pub SweepExact : Table → Type 0
-SweepExact tab = Fits tab → (E : Schedule) (s : ℕ) → s < tab.signals → ((v : Value) → IsValue tab v → signalOf v ≡ s → elementOf E v < most tab)
+SweepExact tab = Fits tab → (E : Schedule) (s : ℕ) → s < tab.signals → ((v : Value) → IsValue tab v → signal_of v ≡ s → element_of E v < most tab)
     → ((sweep tab E s).right ≡ true) ↔ SignalPasses tab E s
 
 -- what the records of a schedule say by themselves: counts, elements below them, and the sum
 pub record Counted (tab : Table) (E : Schedule) : Type 0 where
   pub counted : (s : ℕ) → s < tab.signals → (1 ≤ E.count s) × (E.count s ≤ most tab)
   pub in_all : base E tab.signals ≤ room tab
-  pub below : (v : Value) → IsValue tab v → elementOf E v < E.count (signalOf v)
+  pub below : (v : Value) → IsValue tab v → element_of E v < E.count (signal_of v)
 
 -- So a schedule whose records are right passes exactly if no signal's pass meets a mistake.
 abbrev pub SweepsExact : Table → Type 0

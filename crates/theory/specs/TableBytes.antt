@@ -6,7 +6,7 @@ use Rattle.rules.specs.Table.{Fits}
 use Rattle.rules.specs.Numbers.{tell}
 use Rattle.rules.specs.Encode.{encode}
 use Rattle.rules.specs.Records.{End}
-use Rattle.rules.specs.Reading.{tableIn, readSays, end_of}
+use Rattle.rules.specs.Reading.{table_in, read_says, end_of}
 use Rattle.theory.specs.Promises.{Read, IsLeast}
 
 -- The two tables agree on their tasks, their signals, and on who reads and writes what.
@@ -30,15 +30,15 @@ AreBytes bytes = (i : ℕ) → get_or bytes i 0 < 256
 
 -- The bytes of a table that keeps the rules are accepted, and what is read of them is that table.
 abbrev pub ReadsBack : Table → Type 0
-ReadsBack tab = Fits tab → Wide tab → (readSays (encode tab) ≡ tell 0 0) × SameTable (tableIn (encode tab)) tab
+ReadsBack tab = Fits tab → Wide tab → (read_says (encode tab) ≡ tell 0 0) × SameTable (table_in (encode tab)) tab
 
 -- Bytes that are accepted are those of the table that is read of them, and it keeps the rules.
 abbrev pub WrittenBack : List ℕ → Type 0
-WrittenBack bytes = AreBytes bytes → (readSays bytes).number ≡ 0 → (bytes ≡ encode (tableIn bytes)) × Fits (tableIn bytes) × Wide (tableIn bytes)
+WrittenBack bytes = AreBytes bytes → (read_says bytes).number ≡ 0 → (bytes ≡ encode (table_in bytes)) × Fits (table_in bytes) × Wide (table_in bytes)
 
 -- So bytes are accepted exactly where they are those of a table that keeps the rules.
 abbrev pub AcceptedExactly : List ℕ → Type 0
-AcceptedExactly bytes = AreBytes bytes → ((readSays bytes).number ≡ 0) ↔ ((tab : Table) × Fits tab × Wide tab × (bytes ≡ encode tab))
+AcceptedExactly bytes = AreBytes bytes → ((read_says bytes).number ≡ 0) ↔ ((tab : Table) × Fits tab × Wide tab × (bytes ≡ encode tab))
 
 -- And there is but one such table: two that have the same bytes agree.
 abbrev pub OneTable : Table → Table → Type 0
@@ -47,7 +47,7 @@ OneTable a b = Fits a → Wide a → Fits b → Wide b → encode a ≡ encode b
 -- Of any bytes, refused ones too, the records read so far keep rules 3 and 4, and their hyper-period is the least common multiple of the periods, so that
 -- 8 is exact; a table that is accepted keeps all rules, and was read to its end.
 pub record ReadKeeps (bytes : List ℕ) : Type 0 where
-  pub read : Read (tableIn bytes)
-  pub least : IsLeast (tableIn bytes).period (tableIn bytes).tasks (hyper (tableIn bytes))
-  pub accepted : (readSays bytes).number ≡ 0 → Fits (tableIn bytes)
-  pub whole : (readSays bytes).number ≡ 0 → (p : ℕ) × (end_of bytes ≡ End.at p)
+  pub read : Read (table_in bytes)
+  pub least : IsLeast (table_in bytes).period (table_in bytes).tasks (hyper (table_in bytes))
+  pub accepted : (read_says bytes).number ≡ 0 → Fits (table_in bytes)
+  pub whole : (read_says bytes).number ≡ 0 → (p : ℕ) × (end_of bytes ≡ End.at p)

@@ -6,34 +6,34 @@ use Prim.Native.Nat.{ℕ}
 use borrow.Author.Tests.{eq-eqb, ne_eqb}
 use Rattle.rules.specs.Windows.{Table, hyper}
 use Rattle.rules.specs.Table.{Fits}
-use Rattle.rules.specs.Numbers.{Told, told, allDone}
-use Rattle.rules.specs.Answers.{checkSays}
-use Rattle.rules.specs.Reading.{Grid, gridIn, tableIn, readSays, tableRead}
-use Rattle.rules.specs.Loading.{loadSays}
-use Rattle.theory.proofs.Proved.{whatever-is-read-keeps}
+use Rattle.rules.specs.Numbers.{Told, told, all_done}
+use Rattle.rules.specs.Answers.{check_says}
+use Rattle.rules.specs.Reading.{Grid, grid_in, table_in, read_says, table_read}
+use Rattle.rules.specs.Loading.{load_says}
+use Rattle.theory.proofs.Proved.{whatever_is_read_keeps}
 use Rattle.fields.proofs.Whens.{on, off}
 use Rattle.table.specs.declared.reading.TableRead.{TableRead}
-use Rattle.table.specs.Said.{tableSaid}
-use Rattle.table.proofs.Exact.{answer-says, table_is, hyper-read}
-use Rattle.faults.specs.Faults.{readTable, Accepted}
+use Rattle.table.specs.Said.{table_said}
+use Rattle.table.proofs.Exact.{answer_says, table_is, hyper_read_lem}
+use Rattle.faults.specs.Faults.{read_table, Accepted}
 
-module _ (table : List ℕ) (r : TableRead) (e : tableSaid r ≡ tableRead table) where
-  answered : (told r.answer).number ≡ (readSays table).number
-  answered = ap (λ (t : Told). t.number) (answer-says table r e)
+module _ (table : List ℕ) (r : TableRead) (e : table_said r ≡ table_read table) where
+  answered : (told r.answer).number ≡ (read_says table).number
+  answered = ap (λ (t : Told). t.number) (answer_says table r e)
 
-  pub load-refused : (schedule : List ℕ) → ((told r.answer).number ≡ allDone → ⊥) → told r.answer ≡ loadSays table schedule
-  unfolding loadSays
-  load-refused schedule n = answer-says table r e ∙ sym (on _ _ (ap not (ne_eqb _ _ (λ z. n (answered ∙ z)))))
+  pub load_refused : (schedule : List ℕ) → ((told r.answer).number ≡ all_done → ⊥) → told r.answer ≡ load_says table schedule
+  unfolding load_says
+  load_refused schedule n = answer_says table r e ∙ sym (on _ _ (ap not (ne_eqb _ _ (λ z. n (answered ∙ z)))))
 
-  module _ (z : (told r.answer).number ≡ allDone) (grid : Grid) (g : grid ≡ gridIn table) where
-    read_is : readTable r grid ≡ tableIn table
-    read_is = ap (readTable r) g ∙ table_is table r e
+  module _ (z : (told r.answer).number ≡ all_done) (grid : Grid) (g : grid ≡ grid_in table) where
+    read_is : read_table r grid ≡ table_in table
+    read_is = ap (read_table r) g ∙ table_is table r e
 
-    pub load-accepted : Accepted r grid
-    load-accepted =
-        let done : (readSays table).number ≡ allDone = sym answered ∙ z in
-        (subst Fits (sym read_is) ((whatever-is-read-keeps table).accepted done), hyper-read table r e done ∙ ap hyper (sym read_is))
+    pub load_accepted : Accepted r grid
+    load_accepted =
+        let done : (read_says table).number ≡ all_done = sym answered ∙ z in
+        (subst Fits (sym read_is) ((whatever_is_read_keeps table).accepted done), hyper_read_lem table r e done ∙ ap hyper (sym read_is))
 
-    pub load-checked : (schedule : List ℕ) {t : Told} → t ≡ checkSays (readTable r grid) schedule → t ≡ loadSays table schedule
-    unfolding loadSays
-    load-checked schedule c = c ∙ ap (λ (x : Table). checkSays x schedule) read_is ∙ sym (off _ _ (ap not (eq-eqb _ _ (sym answered ∙ z))))
+    pub load_checked : (schedule : List ℕ) {t : Told} → t ≡ check_says (read_table r grid) schedule → t ≡ load_says table schedule
+    unfolding load_says
+    load_checked schedule c = c ∙ ap (λ (x : Table). check_says x schedule) read_is ∙ sym (off _ _ (ap not (eq-eqb _ _ (sym answered ∙ z))))

@@ -1,10 +1,10 @@
 // The verdict on a schedule, with a table that was read and accepted: its form, then its elements.
 ghost use Rattle.std.specs.Prelude.{◌≡◌, eqb};
-ghost use Rattle.rules.specs.Numbers.{told, allDone};
-ghost use Rattle.rules.specs.Answers.{checkSays};
-ghost use Rattle.form.specs.Form.{formSays};
-ghost use Rattle.faults.specs.Faults.{readTable, Accepted};
-ghost use Rattle.verdict.specs.Judged.{sharingSays};
+ghost use Rattle.rules.specs.Numbers.{told, all_done};
+ghost use Rattle.rules.specs.Answers.{check_says};
+ghost use Rattle.form.specs.Form.{form_says};
+ghost use Rattle.faults.specs.Faults.{read_table, Accepted};
+ghost use Rattle.verdict.specs.Judged.{sharing_says};
 
 use answers::{DONE, number};
 use events::order_events;
@@ -21,7 +21,7 @@ pub fn check_with<'a>(
     schedule: &'a [u8],
 ) -> Answer
     requires { Accepted read grid.now }
-    ensures { told result ≡ checkSays (readTable read grid.now) schedule.now }
+    ensures { told result ≡ check_says (read_table read grid.now) schedule.now }
 {
     let tasks = read.tasks;
     let signals = read.signals;
@@ -41,8 +41,8 @@ pub fn passes<'a>(
     grid: &'a [[u8; MOST_SIGNALS]; MOST_TASKS],
     schedule: &'a [u8],
 ) -> bool
-    requires { Accepted read grid.now × ((formSays (readTable read grid.now) schedule.now).number ≡ allDone) }
-    ensures { result ≡ eqb (checkSays (readTable read grid.now) schedule.now).number allDone }
+    requires { Accepted read grid.now × ((form_says (read_table read grid.now) schedule.now).number ≡ all_done) }
+    ensures { result ≡ eqb (check_says (read_table read grid.now) schedule.now).number all_done }
 {
     let tasks = read.tasks;
     let signals = read.signals;
@@ -61,8 +61,8 @@ pub fn passes<'a>(
 
 // A reader sent wrong anywhere comes before a shared element anywhere.
 fn refusal(read: TableRead, grid: &[[u8; MOST_SIGNALS]; MOST_TASKS], schedule: &[u8]) -> Answer
-    requires { Accepted read grid.now × ((formSays (readTable read grid.now) schedule.now).number ≡ allDone) }
-    ensures { told result ≡ checkSays (readTable read grid.now) schedule.now }
+    requires { Accepted read grid.now × ((form_says (read_table read grid.now) schedule.now).number ≡ all_done) }
+    ensures { told result ≡ check_says (read_table read grid.now) schedule.now }
 {
     match first_fault(read, grid, Side::Readers, schedule) {
         Fault::At(at) => Answer::WrongReader(at),
@@ -76,8 +76,8 @@ fn sharing_refusal(
     grid: &[[u8; MOST_SIGNALS]; MOST_TASKS],
     schedule: &[u8],
 ) -> Answer
-    requires { Accepted read grid.now × ((formSays (readTable read grid.now) schedule.now).number ≡ allDone) }
-    ensures { told result ≡ sharingSays (readTable read grid.now) schedule.now }
+    requires { Accepted read grid.now × ((form_says (read_table read grid.now) schedule.now).number ≡ all_done) }
+    ensures { told result ≡ sharing_says (read_table read grid.now) schedule.now }
 {
     match first_fault(read, grid, Side::Writers, schedule) {
         Fault::At(at) => Answer::Shared(at),

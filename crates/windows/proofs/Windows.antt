@@ -14,7 +14,7 @@ use Rattle.rules.specs.Table.{longest, windowed}
 use Rattle.rules.specs.declared.Task.{Task}
 use Rattle.theory.proofs.Tests.{both3, and_is}
 use Rattle.windows.specs.Windowed.{Windowed}
-use Rattle.windows.specs.Forms.{lastClosed, nextClosing, lastOpened, taskIn, IsLastClosed, IsLastOpened, IsNextClosing}
+use Rattle.windows.specs.Forms.{last_closed, next_closing, last_opened, task_in, IsLastClosed, IsLastOpened, IsNextClosing}
 
 -- a property of both answers of a test, each under what the test then says
 pub branch : {A : Type 0} (P : A → Type 0) (b : Bool) {x y : A} → (b ≡ true → P x) → (b ≡ false → P y) → P (when b x y)
@@ -31,67 +31,67 @@ module _ (task : Task) where
       let b = both3 (ltb task.start task.end) (leb task.end task.period) (leb task.period longest) w in
       (ltb-true task.start task.end b.0, leb-true task.end task.period b.1, leb-true task.period longest b.2)
 
-  pub windowed-is : task.start < task.end → task.end ≤ task.period → task.period ≤ longest → Windowed task
+  pub windowed_is : task.start < task.end → task.end ≤ task.period → task.period ≤ longest → Windowed task
   unfolding windowed
-  windowed-is a b c = and_is (and_is (lt-ltb task.start task.end a) (le-leb task.end task.period b)) (le-leb task.period longest c)
+  windowed_is a b c = and_is (and_is (lt-ltb task.start task.end a) (le-leb task.end task.period b)) (le-leb task.period longest c)
 
-  pub period-pos : Windowed task → 0 < task.period
-  period-pos w = let (a, b, c) = window w in omega arith
+  pub period_pos : Windowed task → 0 < task.period
+  period_pos w = let (a, b, c) = window w in omega arith
 
 -- the last multiple of p, moved on by o, that is at or before t
 module _ (p o t : ℕ) (pos : 0 < p) (le : o ≤ t) where
-  at-or-before : (t - o) / p * p + o ≤ t
-  at-or-before = omega (arith, div-mul-le_self (t - o) p)
+  at_or_before : (t - o) / p * p + o ≤ t
+  at_or_before = omega (arith, div-mul-le_self (t - o) p)
 
   past : t < ((t - o) / p + 1) * p + o
   past = omega (arith, lt-div-mul-add {a = t - o} pos)
 
-  none-later : (j : ℕ) → j * p + o ≤ t → j ≤ (t - o) / p
-  none-later j h = (le-div_iff_mul-le pos).1 (omega arith)
+  none_later : (j : ℕ) → j * p + o ≤ t → j ≤ (t - o) / p
+  none_later j h = (le-div_iff_mul-le pos).1 (omega arith)
 
-module _ (tab : Table) (k t : ℕ) (w : Windowed (taskIn tab k)) where
-  pub last-closed : IsLastClosed tab k t (lastClosed (taskIn tab k) t)
-  unfolding lastClosed
-  last-closed =
+module _ (tab : Table) (k t : ℕ) (w : Windowed (task_in tab k)) where
+  pub last_closed_lem : IsLastClosed tab k t (last_closed (task_in tab k) t)
+  unfolding last_closed
+  last_closed_lem =
       branch (IsLastClosed tab k t) (ltb t (tab.end k))
       (λ b j. omega (arith, ltb-true t (tab.end k) b))
       (λ b. let l = ltb-false t (tab.end k) b in
-      (at-or-before (tab.period k) (tab.end k) t (period-pos (taskIn tab k) w) l, none-later (tab.period k) (tab.end k) t (period-pos (taskIn tab k) w) l))
+      (at_or_before (tab.period k) (tab.end k) t (period_pos (task_in tab k) w) l, none_later (tab.period k) (tab.end k) t (period_pos (task_in tab k) w) l))
 
-  pub last-opened : IsLastOpened tab k t (lastOpened (taskIn tab k) t)
-  unfolding lastOpened
-  last-opened =
+  pub last_opened_lem : IsLastOpened tab k t (last_opened (task_in tab k) t)
+  unfolding last_opened
+  last_opened_lem =
       branch (IsLastOpened tab k t) (leb t (tab.start k))
       (λ b j. omega (arith, leb-true t (tab.start k) b))
       (λ b.
       let h = leb-false t (tab.start k) b in
       let l : tab.start k ≤ t - 1 = omega arith in
-      let a = at-or-before (tab.period k) (tab.start k) (t - 1) (period-pos (taskIn tab k) w) l in
-      (omega arith, λ j o. none-later (tab.period k) (tab.start k) (t - 1) (period-pos (taskIn tab k) w) l j (omega arith)))
+      let a = at_or_before (tab.period k) (tab.start k) (t - 1) (period_pos (task_in tab k) w) l in
+      (omega arith, λ j o. none_later (tab.period k) (tab.start k) (t - 1) (period_pos (task_in tab k) w) l j (omega arith)))
 
   -- the first closing after t, up to no limit
   abbrev After : ℕ → Type 0
   After x = (t < x) × ((j : ℕ) → t < closes tab k j → x ≤ closes tab k j) × ((j : ℕ) × (closes tab k j ≡ x))
 
-  first-after : After (when (leb (tab.end k) t) (((t - tab.end k) / tab.period k + 1) * tab.period k + tab.end k) (tab.end k))
-  first-after =
+  first_after : After (when (leb (tab.end k) t) (((t - tab.end k) / tab.period k + 1) * tab.period k + tab.end k) (tab.end k))
+  first_after =
       branch After (leb (tab.end k) t)
       (λ b. let l = leb-true (tab.end k) t b in
-      (past (tab.period k) (tab.end k) t (period-pos (taskIn tab k) w) l, (λ j h. later j h l), ((t - tab.end k) / tab.period k + 1, refl)))
+      (past (tab.period k) (tab.end k) t (period_pos (task_in tab k) w) l, (λ j h. later j h l), ((t - tab.end k) / tab.period k + 1, refl)))
       (λ b. let l = leb-false (tab.end k) t b in (l, (λ j h. omega arith), (0, omega arith)))
     where
       later : (j : ℕ) → t < closes tab k j → tab.end k ≤ t → closes tab k ((t - tab.end k) / tab.period k + 1) ≤ closes tab k j
       later j h l =
           let q : ℕ = (t - tab.end k) / tab.period k in
-          let a : q * tab.period k + tab.end k ≤ t = at-or-before (tab.period k) (tab.end k) t (period-pos (taskIn tab k) w) l in
+          let a : q * tab.period k + tab.end k ≤ t = at_or_before (tab.period k) (tab.end k) t (period_pos (task_in tab k) w) l in
           let b : q < j = lt_of_not-le (λ m. omega (arith, mul-le-mul_right (tab.period k) m)) in
           omega (arith, mul-le-mul_right (tab.period k) b)
 
-  pub next-closing : (limit : ℕ) → IsNextClosing tab k t limit (nextClosing (taskIn tab k) t limit)
-  unfolding nextClosing
-  next-closing limit =
+  pub next_closing_lem : (limit : ℕ) → IsNextClosing tab k t limit (next_closing (task_in tab k) t limit)
+  unfolding next_closing
+  next_closing_lem limit =
       let x : ℕ = when (leb (tab.end k) t) (((t - tab.end k) / tab.period k + 1) * tab.period k + tab.end k) (tab.end k) in
-      let f : After x = first-after in
+      let f : After x = first_after in
       record {
         within = min-le_left limit x;
         first = λ j l. le_trans (min-le_right limit x) (f.1 j l);
@@ -105,10 +105,10 @@ module _ (tab : Table) (k t : ℕ) (w : Windowed (taskIn tab k)) where
 -- ---- the two ways to the next closing
 
 module _ (task : Task) (t limit x : ℕ) where
-  pub next-later : task.end ≤ t → x ≡ ((t - task.end) / task.period + 1) * task.period + task.end → nextClosing task t limit ≡ min limit x
-  unfolding nextClosing when
-  next-later l e = simp (le-leb task.end t l, e)
+  pub next_later : task.end ≤ t → x ≡ ((t - task.end) / task.period + 1) * task.period + task.end → next_closing task t limit ≡ min limit x
+  unfolding next_closing when
+  next_later l e = simp (le-leb task.end t l, e)
 
-  pub next-own : t < task.end → x ≡ task.end → nextClosing task t limit ≡ min limit x
-  unfolding nextClosing when
-  next-own l e = simp (lt-leb task.end t l, e)
+  pub next_own : t < task.end → x ≡ task.end → next_closing task t limit ≡ min limit x
+  unfolding next_closing when
+  next_own l e = simp (lt-leb task.end t l, e)

@@ -1,8 +1,8 @@
 // Windows of one task in closed form: which instance closes or opens last, which closes next; and the hyper-period of all tasks.
 ghost use Rattle.std.specs.Prelude.{◌≡◌, ◌<◌, ◌≤◌};
-ghost use Rattle.rules.specs.Table.{longest, mostTasks};
+ghost use Rattle.rules.specs.Table.{longest, most_tasks};
 ghost use Rattle.windows.specs.Windowed.{Windowed, AllWindowed};
-ghost use Rattle.windows.specs.Forms.{lastClosed, nextClosing, lastOpened, hyperOf};
+ghost use Rattle.windows.specs.Forms.{last_closed, next_closing, last_opened, hyper_of};
 
 use rules::{Task, Tasks};
 
@@ -23,7 +23,7 @@ pub enum Hyper {
 // The last instance that closes at or before a tick.
 pub fn last_closed(task: Task, tick: u32) -> Found
     requires { Windowed task }
-    ensures { result ≡ lastClosed task tick }
+    ensures { result ≡ last_closed task tick }
 {
     if tick < task.end {
         Found::Nothing
@@ -35,7 +35,7 @@ pub fn last_closed(task: Task, tick: u32) -> Found
 // The first closing after a tick, or `limit` where that is not later.
 pub fn next_closing(task: Task, tick: u32, limit: u32) -> u32
     requires { Windowed task × (tick ≤ longest) }
-    ensures { result ≡ nextClosing task tick limit }
+    ensures { result ≡ next_closing task tick limit }
 {
     let mut next = task.end;
     if task.end <= tick {
@@ -47,7 +47,7 @@ pub fn next_closing(task: Task, tick: u32, limit: u32) -> u32
 // The last instance that opens before a tick.
 pub fn last_opened(task: Task, tick: u32) -> Found
     requires { Windowed task }
-    ensures { result ≡ lastOpened task tick }
+    ensures { result ≡ last_opened task tick }
 {
     if tick <= task.start {
         Found::Nothing
@@ -58,8 +58,8 @@ pub fn last_opened(task: Task, tick: u32) -> Found
 
 // The least common multiple of all periods; it stops as soon as that is above the longest.
 pub fn hyper_period(tasks: Tasks) -> Hyper
-    requires { (tasks.count ≤ mostTasks) × AllWindowed tasks }
-    ensures { result ≡ hyperOf tasks }
+    requires { (tasks.count ≤ most_tasks) × AllWindowed tasks }
+    ensures { result ≡ hyper_of tasks }
 {
     let mut hyper: u32 = 1;
     let mut k: usize = 0;

@@ -2,9 +2,9 @@ use Prim.Native.Nat.{ℕ, ◌<◌}
 use borrow.Author.Rules.{rules}
 use native.Mathlib.Nat.{mod-lt, pos_of_ne-zero}
 use native.Mathlib.Omega.{arith}
-use Rattle.theory.proofs.Euclid.{gcd-zero, gcd-rule}
+use Rattle.theory.proofs.Euclid.{gcd_zero, gcd_rule}
 use mathlib.Core.Path.{sym, ap, ◌∙◌}
-use Rattle.rules.specs.Euclid.{gcdOf}
+use Rattle.rules.specs.Euclid.{gcd_of}
 use borrow.Fn.Kinds.{In}
 use borrow.Fn.PlainCycle.{Measures, is, falls, and}
 use Rattle.euclid.proofs.gcd.Reads as gcd
@@ -30,13 +30,13 @@ gcd-gcd-requires t c κs =
     (omega (arith, mod-lt c.before.args.a (pos_of_ne-zero c.if1.false)), tt)
 
 gcd-returns : (t : ℕ) → gcd-lts.Need-returns (gcd-below t, gcd.Post) (gcd-at t) gcd.Post
-gcd-returns t c = sym (ap (gcdOf c.before.args.a) c.if1.true ∙ gcd-zero _)
+gcd-returns t c = sym (ap (gcd_of c.before.args.a) c.if1.true ∙ gcd_zero _)
 
 gcd-returns-2 : (t : ℕ) → gcd-lts.Need-returns-2 (gcd-below t, gcd.Post) (gcd-at t) gcd.Post
-gcd-returns-2 t c = c.gcd.ensures ∙ sym (gcd-rule _ _ c.before.if1.false)
+gcd-returns-2 t c = c.gcd.ensures ∙ sym (gcd_rule _ _ c.before.if1.false)
 
-pub +gcd-spec : {M : Type 1} → statement M
-+gcd-spec =
+pub +gcd_spec : {M : Type 1} → statement M
++gcd_spec =
     close
     μ-gcd
     λ t. gcd-lts.spec

@@ -4,7 +4,7 @@ use mathlib.Core.Path.{◌≡◌}
 use mathlib.Core.Logic.{⊎_elim, inl, inr}
 use native.Mathlib.Omega.{arith}
 use Rattle.events.specs.Order.{Leads}
-use Rattle.events.proofs.Merged.{leads_one, leads-more}
+use Rattle.events.proofs.Merged.{leads_one, leads_more}
 use Rattle.events.proofs.least.Statement.{statement}
 use Rattle.events.proofs.least.Tie as tie
 
@@ -23,15 +23,15 @@ element-copy-out-if1-2 c = omega (arith, c.before.before.loop.invariant.2.one)
 loop-again : tie.Need-loop-preserved invariant-loop decreases-loop
 loop-again c =
     let at-loop = c.before.before.before.before in
-    (omega arith, omega arith, leads-more _ _ _ _ at-loop.loop.invariant.2 (⊎_elim (λ w. inl (w.0.taken, w.1)) (λ w. inr (w.0.left, w.1)) c.if1.branch))
+    (omega arith, omega arith, leads_more _ _ _ _ at-loop.loop.invariant.2 (⊎_elim (λ w. inl (w.0.taken, w.1)) (λ w. inr (w.0.left, w.1)) c.if1.branch))
 
 returns : tie.Need-returns invariant-loop decreases-loop
 returns c =
     let e : c.before.loop.k ≡ c.before.before.args.count = omega arith in
     rw e at c.before.loop.invariant.2
 
-pub least-spec : {M : Type 1} → statement M
-least-spec =
+pub least_spec : {M : Type 1} → statement M
+least_spec =
     tie.close
     (tie.spec
     invariant-loop

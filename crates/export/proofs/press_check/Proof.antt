@@ -6,8 +6,8 @@ use Rattle.export.proofs.press_check.Tie as tie
 
 returns : tie.Need-returns
 returns c =
-    let checked = c.before.before.check-schedule in
+    let checked = c.before.before.check_schedule in
     (c.number.ensures ∙ ap (λ (t : Told). t.number) checked.ensures, c.before.place.ensures ∙ ap (λ (t : Told). t.place) checked.ensures)
 
-pub press-check-spec : {M : Type 1} → statement M
-press-check-spec = tie.close (tie.spec (λ c κs. search rules) (λ c κs. search rules) (λ c κs. search rules) returns)
+pub press_check_spec : {M : Type 1} → statement M
+press_check_spec = tie.close (tie.spec (λ c κs. search rules) (λ c κs. search rules) (λ c κs. search rules) returns)

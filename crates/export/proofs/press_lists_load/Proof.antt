@@ -10,5 +10,5 @@ returns c =
     let loaded = c.before.before.load in
     (c.number.ensures ∙ ap (λ (t : Told). t.number) loaded.ensures.0, c.before.place.ensures ∙ ap (λ (t : Told). t.place) loaded.ensures.0, loaded.ensures.1)
 
-pub press-lists-load-spec : {M : Type 1} → statement M
-press-lists-load-spec = tie.close (tie.spec (λ c κs. search rules) (λ c κs. search rules) (λ c κs. search rules) returns)
+pub press_lists_load_spec : {M : Type 1} → statement M
+press_lists_load_spec = tie.close (tie.spec (λ c κs. search rules) (λ c κs. search rules) (λ c κs. search rules) returns)

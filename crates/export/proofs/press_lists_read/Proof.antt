@@ -6,8 +6,8 @@ use Rattle.machine.specs.declared.WordRead.{WordRead}
 use Rattle.export.proofs.press_lists_read.Statement.{statement}
 use Rattle.export.proofs.press_lists_read.Tie as tie
 
-pub press-lists-read-spec : {M : Type 1} → statement M
-press-lists-read-spec =
+pub press_lists_read_spec : {M : Type 1} → statement M
+press_lists_read_spec =
     tie.close
     (tie.spec
     (λ c κs. search rules)

@@ -6,8 +6,8 @@ use Rattle.machine.specs.Calls.{Left}
 use Rattle.export.proofs.press_lists_step.Statement.{statement}
 use Rattle.export.proofs.press_lists_step.Tie as tie
 
-pub press-lists-step-spec : {M : Type 1} → statement M
-press-lists-step-spec =
+pub press_lists_step_spec : {M : Type 1} → statement M
+press_lists_step_spec =
     tie.close
     (tie.spec
     (λ c κs. search rules)

@@ -6,8 +6,8 @@ use Rattle.machine.specs.Calls.{Left}
 use Rattle.export.proofs.press_lists_write.Statement.{statement}
 use Rattle.export.proofs.press_lists_write.Tie as tie
 
-pub press-lists-write-spec : {M : Type 1} → statement M
-press-lists-write-spec =
+pub press_lists_write_spec : {M : Type 1} → statement M
+press_lists_write_spec =
     tie.close
     (tie.spec
     (λ c κs. search rules)

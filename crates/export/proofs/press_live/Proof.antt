@@ -47,7 +47,7 @@ use Rattle.rules.specs.Numbers.{Told, told}
 use Rattle.rules.specs.contracts.Answer as S
 use Rattle.rules.proofs.Answer.TheLaws as S'
 use Rattle.lives.specs.declared.LiveValue.{LiveValue}
-use Rattle.lives.specs.Lives.{liveTold, liveOut}
+use Rattle.lives.specs.Lives.{live_told, live_out}
 use Rattle.lives.specs.contracts.LiveValue as T
 use Rattle.lives.specs.contracts.live_list as listing
 use Rattle.lives.proofs.live_list.Symbol as listing-def
@@ -59,7 +59,7 @@ use Rattle.export.specs.contracts.Numbered as N
 use Rattle.export.proofs.Numbered.TheLaws as N'
 use Rattle.export.proofs.numbers_of.Symbol.{name as #export·numbers-of}
 use Rattle.export.specs.contracts.press_live.Key.{name as #export·press-live}
-use Rattle.export.proofs.Walks.{takes, puts, Numbers, numbers-known, tells-numbers, number_fits, place-fits, met, framed, asks, hands, locals, frees1, frees4}
+use Rattle.export.proofs.Walks.{takes, puts, Numbers, numbers_known, tells_numbers, number_fits, place_fits, met, framed, asks, hands, locals, frees1, frees4}
 use Rattle.export.specs.contracts.press_live as live'
 use Rattle.export.proofs.press_live.Statement as stated
 use Rattle.export.proofs.press_live.Code as code
@@ -102,7 +102,7 @@ module _ {M : Type 1} {𝓤 : Ura M} (𝓛 : Logic 𝓤) (at_mem : Memory → SP
 
   -- what the two callees ensure
   abbrev Listed : Answer → List LiveValue → Type 0
-  Listed r zs = (told r ≡ liveTold table.now i (length ys)) × (zs ≡ liveOut table.now i ys)
+  Listed r zs = (told r ≡ live_told table.now i (length ys)) × (zs ≡ live_out table.now i ys)
 
   abbrev Taken : Answer → Numbered → Type 0
   Taken r n = n ≡ numbered (told r)
@@ -159,22 +159,22 @@ module _ {M : Type 1} {𝓤 : Ura M} (𝓛 : Logic 𝓤) (at_mem : Memory → SP
         move ! (2 ∷ []) $ split ! $ move ! (1 ∷ []) $ peeks ! S.the_row (Is S.the_row) (shows 𝓛 S.the_row) r (u ∷ []) (λ is. drop ! $
         -- [the two tokens; the last list; true; table; _8; …; _7; …; room for _6; …; room for _5; …; _4; …; _3; …; _2; …; _1; …; room for _0; …; place's obs, borrow and token]
         land ! (from ! (stop !)) (init ! 10 refl ((EL.lawful S.the_type S'.the_laws 𝓛 tt).typed r _ is).0) $
-        tells-numbers ! at_mem run fm known-numbers r u is (hands ! 5 8 refl (no_more !)) (λ n v d given.
+        tells_numbers ! at_mem run fm known-numbers r u is (hands ! 5 8 refl (no_more !)) (λ n v d given.
         land ! (from ! (stop !)) (init ! 8 refl ((LL.lawful N.the_type N'.the_laws 𝓛).typed n _ given).0) $
         rewrite ! 8 (λ (w : Val). ‵ (fat full_share N'.mir l₆ 0 w)) (ap only (LL.tells N.the_type N'.the_laws n (v ∷ []) given)) refl $
         move ! (22 ∷ 23 ∷ 24 ∷ []) $ takes ! tt usize (uint_vals w64) (uint_Tells w64) p b' o' (λ _.
         -- [the place; what it owns; the open borrow; obs; auth; the two tokens; the last list; true; table; _8; …; _7; …; _6; …; _5; …; _4; …; _3; …; _2; …; _1; …; room for _0; …]
-        assigns ! (of_opd ! (load ! (from ! (fld ! refl (stop !))) (look_in ! 13 (sub ! 1 refl (whole !))))) (from ! (hop ! (look ! 17 refl) (stop !))) (store ! 0 refl (tt, record { fits = place-fits n v given })) $
+        assigns ! (of_opd ! (load ! (from ! (fld ! refl (stop !))) (look_in ! 13 (sub ! 1 refl (whole !))))) (from ! (hop ! (look ! 17 refl) (stop !))) (store ! 0 refl (tt, record { fits = place_fits n v given })) $
         assigns ! (of_opd ! (load ! (from ! (fld ! refl (stop !))) (look_in ! 13 (sub ! 0 refl (whole !))))) (from ! (stop !)) (init ! 25 refl (tt, record { fits = number_fits n v given })) $
-        puts ! tt usize (uint_vals w64) (uint_Makes 𝓛 w64) n.place (refl, place-fits n v given) b' o' $
+        puts ! tt usize (uint_vals w64) (uint_Makes 𝓛 w64) n.place (refl, place_fits n v given) b' o' $
         -- [place's obs, borrow and token; the two tokens; the last list; true; table; _8; …; _7; …; _6; …; _5; …; _4; …; _3; …; _2; …; _1; …; _0; …]
         returns ! (look ! 23 refl) $ keep ! (locals 7 9 (3 ∷ 2 ∷ 6 ∷ 4 ∷ 0 ∷ 1 ∷ [])) $ frees4 ! $ frees4 ! $ frees1 ! $ free0 ! $ by ! (exits r zs.1.1.0 n e l d (number_fits n v given)))))))))))))))))))
 
-pub press-live-spec : {M : Type 1} → stated.statement M
+pub press_live_spec : {M : Type 1} → stated.statement M
 unfolding code.routine
-press-live-spec 𝓤 𝓛 𝓜 𝓡 =
+press_live_spec 𝓤 𝓛 𝓜 𝓡 =
     let A : Atoms 𝓤 = 𝓛.A in
     met 𝓛 𝓜 𝓡 code.env live'.ended stayed (Goes-none_slice 𝓛 3 (0 ∷ []) tt (plain (λ _. u8)) yes, (Goes-none 𝓛 3 (λ _. usize) yes (λ κs x f. refl), (Goes-gave_slice 𝓛 3 1 tt (plain (λ _. R)), (Goes-ref 𝓛 3 2 tt (plain (λ _. usize)), tt)))) (live'.clauses 𝓛 𝓜.mem 𝓡.run) #export·press-live code.function (code.unfolded 𝓤 𝓛.H 𝓜 𝓡)
     (λ κs. (shr_slice_vals, (uint_vals w64, (mut_slice_vals, (mut_vals, tt))))) (λ κs. (shr_slice_Tells (named 0) κs.0 u8, (uint_Tells w64, (mut_slice_Tells (named 1) κs.1.0 R, (mut_Tells (named 2) κs.1.1.0 usize, tt)))))
     (λ κs qs bounds a g are. walk 𝓛 𝓜.mem 𝓡.run κs.0 κs.1.0 κs.1.1.0 qs.0 qs.1.0 qs.1.1.0 a.0 a.1.0 a.1.1.0.ref_ptr.0 a.1.1.0.ref_ptr.1 a.1.1.0.ghost_name a.1.1.0.now a.1.1.1.0.ref_ptr.0 a.1.1.1.0.ref_ptr.1 a.1.1.1.0.ghost_name a.1.1.1.0.now are.1.0.1 (tables 𝓤 𝓛.H 𝓜 𝓡 code.env).C (tables 𝓤 𝓛.H 𝓜 𝓡 code.env).Λ (framed 𝓛 𝓜 𝓡 code.env)
-    (cited 𝓤 𝓛.H (Listing 𝓛 𝓜.mem 𝓡.run) 𝓜 𝓡 code.env #lives·live-list listing-def.routine code.calls-lives::live-list (listing-thm.met 𝓤 𝓛 𝓜 𝓡)) (numbers-known 𝓛 𝓜 𝓡 code.env code.calls-export::numbers-of) are.0 are.1.1.0.0.1)
+    (cited 𝓤 𝓛.H (Listing 𝓛 𝓜.mem 𝓡.run) 𝓜 𝓡 code.env #lives·live-list listing-def.routine code.calls-lives::live-list (listing-thm.met 𝓤 𝓛 𝓜 𝓡)) (numbers_known 𝓛 𝓜 𝓡 code.env code.calls-export::numbers-of) are.0 are.1.1.0.0.1)

@@ -7,7 +7,7 @@ use lib.ListN.{set, replicate}
 use Rattle.rules.specs.Words.{up_to}
 use Rattle.state.specs.Parts.{none, cells, reads, loaded}
 use Rattle.state.specs.Parts as parts
-use Rattle.state.proofs.Folds.{acted-none, acted-turn, acted-end}
+use Rattle.state.proofs.Folds.{acted_none, acted_turn, acted_end}
 use Rattle.loading.specs.Laid.{blank}
 use Rattle.loading.proofs.clear.Statement.{statement}
 use Rattle.loading.proofs.clear.Tie as tie
@@ -28,11 +28,11 @@ clear_spec =
     (λ c. search rules)
     (λ c. search rules)
     (λ c. search rules)
-    (λ c. (omega arith, acted-none _ _))
+    (λ c. (omega arith, acted_none _ _))
     (λ c. search rules)
     (λ c. search rules)
     (λ c. search rules)
     (λ c. search rules)
     (λ c. search rules)
-    (λ c. (omega arith, acted-turn _ _ _ refl c.before.loop.invariant.1))
-    (λ c. acted-end _ _ _ (cells + cells) c.before.loop.invariant.1 (omega arith) (omega arith)))
+    (λ c. (omega arith, acted_turn _ _ _ refl c.before.loop.invariant.1))
+    (λ c. acted_end _ _ _ (cells + cells) c.before.loop.invariant.1 (omega arith) (omega arith)))

@@ -3,13 +3,13 @@ use native.Mathlib.Omega.{arith}
 use borrow.Author.Rules.{rules}
 use mathlib.Core.Path.{sym, ◌∙◌}
 use borrow.Author.Tests.{not-true, not-false}
-use Rattle.loading.specs.Laid.{placeAccess}
+use Rattle.loading.specs.Laid.{place_access}
 use Rattle.loading.proofs.place_access.Statement.{statement}
 use Rattle.loading.proofs.place_access.Tie as tie
 
-pub place-access-spec : {M : Type 1} → statement M
-unfolding placeAccess
-place-access-spec =
+pub place_access_spec : {M : Type 1} → statement M
+unfolding place_access
+place_access_spec =
     tie.close
     (tie.spec
     (λ c κs. search rules)

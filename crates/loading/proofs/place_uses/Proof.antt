@@ -6,25 +6,25 @@ use Prim.Native.Nat.{◌-◌, ◌≤◌, ◌+◌}
 use lib.ListN.{set}
 use Rattle.rules.specs.Words.{up_to}
 use Rattle.state.specs.Parts.{uses}
-use Rattle.state.proofs.Folds.{acted-none, acted-turn, acted-end}
-use Rattle.loading.specs.Laid.{elementIn, placeUses}
+use Rattle.state.proofs.Folds.{acted_none, acted_turn, acted_end}
+use Rattle.loading.specs.Laid.{element_in, place_uses}
 use Rattle.loading.proofs.place_uses.Statement.{statement}
 use Rattle.loading.proofs.place_uses.Tie as tie
 
 abbrev invariant-loop : tie.invariant-loop
-invariant-loop numbers₀ schedule signal base first n j₀ numbers j = (j ≤ n) × (numbers ≡ up_to j (λ i l. set l (uses + (first + i)) (base + elementIn schedule signal (first + i))) numbers₀)
+invariant-loop numbers₀ schedule signal base first n j₀ numbers j = (j ≤ n) × (numbers ≡ up_to j (λ i l. set l (uses + (first + i)) (base + element_in schedule signal (first + i))) numbers₀)
 
 abbrev decreases-loop : tie.decreases-loop
 decreases-loop numbers₀ schedule signal base first n j₀ numbers j = n - j
 
-pub place-uses-spec : {M : Type 1} → statement M
-unfolding placeUses
-place-uses-spec =
+pub place_uses_spec : {M : Type 1} → statement M
+unfolding place_uses
+place_uses_spec =
     tie.close
     (tie.spec
     invariant-loop
     decreases-loop
-    (λ c. (omega arith, acted-none _ _))
+    (λ c. (omega arith, acted_none _ _))
     (λ c. search rules)
     (λ c. search rules)
     (λ c. search rules)
@@ -40,5 +40,5 @@ place-uses-spec =
     (λ c. search rules)
     (λ c. search rules)
     (λ c. search rules)
-    (λ c. (omega arith, acted-turn _ _ _ (rw c.wide.ensures.0) c.before.before.before.loop.invariant.1))
-    (λ c. acted-end _ _ _ _ c.before.loop.invariant.1 (omega arith) (omega arith)))
+    (λ c. (omega arith, acted_turn _ _ _ (rw c.wide.ensures.0) c.before.before.before.loop.invariant.1))
+    (λ c. acted_end _ _ _ _ c.before.loop.invariant.1 (omega arith) (omega arith)))

@@ -39,9 +39,9 @@ use Rattle.records.specs.declared.Cursor.{Cursor}
 use Rattle.reader.specs.declared.Reader.{Reader}
 use Rattle.reader.proofs.Answers.{answers}
 use Rattle.reader.proofs.Hands.{hands}
-use Rattle.reader.proofs.Held.{bytesVal, readerRow}
-use Rattle.reader.proofs.Places.{Placed, to-placed, places, placing}
-use Rattle.reader.proofs.Silent.{Done, gives, meets, frees-full}
+use Rattle.reader.proofs.Held.{bytes_val, reader_row}
+use Rattle.reader.proofs.Places.{Placed, to_placed, places, placing}
+use Rattle.reader.proofs.Silent.{Done, gives, meets, frees_full}
 use Rattle.records.specs.contracts.Cursor as C₁
 use Rattle.records.proofs.Cursor.TheLaws as C₁'
 use Rattle.records.specs.contracts.AccessStep as S
@@ -74,30 +74,30 @@ module _ {M : Type 1} {𝓤 : Ura M} (𝓛 : Logic 𝓤) (mem : Memory → SProp
     Rest = owns (usize ∷ usize ∷ usize ∷ X.the_row ∷ []) rest rest_at
 
     abbrev at : Vals asking.signature (κ, tt)
-    at = (bytesVal s ∷ [], (C₁'.lowered c ∷ [], rest_at))
+    at = (bytes_val s ∷ [], (C₁'.lowered c ∷ [], rest_at))
 
     -- what `next_access` is passed: the reader r, with the machine value u
-    abbrev to-next : Reader → Val → (Next 𝓛 mem run).Ghost
-    to-next r u = (((κ, tt), (q, tt), tt, (r, rest), (u ∷ [], rest_at)), tt)
+    abbrev to_next : Reader → Val → (Next 𝓛 mem run).Ghost
+    to_next r u = (((κ, tt), (q, tt), tt, (r, rest), (u ∷ [], rest_at)), tt)
 
-    walk : Is (ShrSlice (named 0) κ u8) s (bytesVal s ∷ []) → Is C₁.the_row c (C₁'.lowered c ∷ []) → Is usize tasks (vint w64 tasks ∷ []) → Is usize signals (vint w64 signals ∷ []) → Is usize count (vint w64 count ∷ []) → Is X.the_row last (X'.lowered last ∷ [])
-        → ent 𝓤 (on_entry 𝓛 asking.signature (κ, tt) (q, tt) (s, (c, rest)) at) (WpFn 𝓤 H 𝓣.C 𝓣.Λ code.function (bytesVal s ∷ C₁'.lowered c ∷ vint w64 tasks ∷ vint w64 signals ∷ vint w64 count ∷ X'.lowered last ∷ []) (Done 𝓛 asking.ended (asking.clauses 𝓛 mem run) (κ, tt) (q, tt) tt (s, (c, rest)) at tt))
-    walk s-is c-is tasks-is signals-is count-is last-is =
+    walk : Is (ShrSlice (named 0) κ u8) s (bytes_val s ∷ []) → Is C₁.the_row c (C₁'.lowered c ∷ []) → Is usize tasks (vint w64 tasks ∷ []) → Is usize signals (vint w64 signals ∷ []) → Is usize count (vint w64 count ∷ []) → Is X.the_row last (X'.lowered last ∷ [])
+        → ent 𝓤 (on_entry 𝓛 asking.signature (κ, tt) (q, tt) (s, (c, rest)) at) (WpFn 𝓤 H 𝓣.C 𝓣.Λ code.function (bytes_val s ∷ C₁'.lowered c ∷ vint w64 tasks ∷ vint w64 signals ∷ vint w64 count ∷ X'.lowered last ∷ []) (Done 𝓛 asking.ended (asking.clauses 𝓛 mem run) (κ, tt) (q, tt) tt (s, (c, rest)) at tt))
+    walk s-is c-is tasks-is signals-is count_is last-is =
         qed 𝓛 (raw (on_entry 𝓛 asking.signature (κ, tt) (q, tt) (s, (c, rest)) at) ∷ []) ∵
-        use1 𝓛 (raw ((Placed 𝓛 mem run).pre (to-placed 𝓛 mem run κ q s c)) ⊛ ‵ Rest) (places 𝓛 mem run κ q s c Rest) $ split ! $ enter ! 𝓣.C 𝓣.Λ code.function (bytesVal s ∷ C₁'.lowered c ∷ vint w64 tasks ∷ vint w64 signals ∷ vint w64 count ∷ X'.lowered last ∷ []) _ $
+        use1 𝓛 (raw ((Placed 𝓛 mem run).pre (to_placed 𝓛 mem run κ q s c)) ⊛ ‵ Rest) (places 𝓛 mem run κ q s c Rest) $ split ! $ enter ! 𝓣.C 𝓣.Λ code.function (bytes_val s ∷ C₁'.lowered c ∷ vint w64 tasks ∷ vint w64 signals ∷ vint w64 count ∷ X'.lowered last ∷ []) _ $
         alloc1 ! (λ l₀. alloc1 ! (λ l₁. alloc1 ! (λ l₂. alloc1 ! (λ l₃. alloc1 ! (λ l₄. alloc1 ! (λ l₅. alloc1 ! (λ l₆. alloc1 ! (λ l₇. alloc0 ! $ params1 ! $
-        pass1 ! (init ! 12 refl ((shr_slice_Lawful 𝓛 (named 0) κ u8).typed s (bytesVal s ∷ []) s-is).0) $ pass1 ! (init ! 10 refl ((LL.lawful C₁.the_type C₁'.the_laws 𝓛).typed c _ c-is).0) $
+        pass1 ! (init ! 12 refl ((shr_slice_Lawful 𝓛 (named 0) κ u8).typed s (bytes_val s ∷ []) s-is).0) $ pass1 ! (init ! 10 refl ((LL.lawful C₁.the_type C₁'.the_laws 𝓛).typed c _ c-is).0) $
         pass1 ! (init ! 8 refl ((uint_Lawful 𝓛 w64).typed tasks _ tasks-is).0) $ pass1 ! (init ! 6 refl ((uint_Lawful 𝓛 w64).typed signals _ signals-is).0) $
-        pass1 ! (init ! 4 refl ((uint_Lawful 𝓛 w64).typed count _ count-is).0) $ pass1 ! (init ! 2 refl ((LL.lawful X.the_type X'.the_laws 𝓛).typed last _ last-is).0) $ pass0 ! $ move ! (16 ∷ []) $
+        pass1 ! (init ! 4 refl ((uint_Lawful 𝓛 w64).typed count _ count_is).0) $ pass1 ! (init ! 2 refl ((LL.lawful X.the_type X'.the_laws 𝓛).typed last _ last-is).0) $ pass0 ! $ move ! (16 ∷ []) $
         -- [what `placed` asks; room for the reader; …; the parameters; …; room for _0; …; what the rest own]
         placing ! (fm_of 𝓤 H 𝓛.laws 𝓣) mem run κ q s c known-placed (and_then ! (load ! (from ! (stop !)) (look ! 13 refl)) (and_then ! (load ! (from ! (stop !)) (look ! 11 refl)) (no_more !))) (λ u r e u-wt. land ! (from ! (stop !)) (init ! 2 refl u-wt) $
         -- [what the reader owns; the token; the reader; …; the parameters; …; room for _0; …; what the rest own]
-        move ! (0 ∷ 18 ∷ []) $ fjoin ! $ use2 𝓛 (raw ((Next 𝓛 mem run).pre (to-next r u))) (hands 𝓛 κ q (fsep ((readerRow (κ, tt)).own r (u ∷ [])) Rest)) $
-        calls_at ! (fm_of 𝓤 H 𝓛.laws 𝓣) (Next 𝓛 mem run) known_next (to-next r u) (and_then ! (load ! (from ! (stop !)) (look ! 1 refl)) (and_then ! (load ! (from ! (stop !)) (look ! 9 refl)) (and_then ! (load ! (from ! (stop !)) (look ! 7 refl)) (and_then ! (load ! (from ! (stop !)) (look ! 5 refl)) (and_then ! (load ! (from ! (stop !)) (look ! 3 refl)) (no_more !)))))) (λ v.
+        move ! (0 ∷ 18 ∷ []) $ fjoin ! $ use2 𝓛 (raw ((Next 𝓛 mem run).pre (to_next r u))) (hands 𝓛 κ q (fsep ((reader_row (κ, tt)).own r (u ∷ [])) Rest)) $
+        calls_at ! (fm_of 𝓤 H 𝓛.laws 𝓣) (Next 𝓛 mem run) known_next (to_next r u) (and_then ! (load ! (from ! (stop !)) (look ! 1 refl)) (and_then ! (load ! (from ! (stop !)) (look ! 9 refl)) (and_then ! (load ! (from ! (stop !)) (look ! 7 refl)) (and_then ! (load ! (from ! (stop !)) (look ! 5 refl)) (and_then ! (load ! (from ! (stop !)) (look ! 3 refl)) (no_more !)))))) (λ v.
         answers ! tt κ q S.the_row v (lasts next.ended (κ, tt) (r, rest)) (AccessGives r.table.now tasks signals count last r.place) (λ t told t-is.
         -- [the answer; the token; the reader; …; the parameters; …; room for _0; …]
         land ! (from ! (stop !)) (init ! 16 refl ((EL.lawful S.the_type S'.the_laws 𝓛 tt).typed t _ t-is).0) $ returns ! (look ! 16 refl) $ keep ! (16 ∷ 17 ∷ 14 ∷ 15 ∷ 12 ∷ 13 ∷ 10 ∷ 11 ∷ 8 ∷ 9 ∷ 6 ∷ 7 ∷ 4 ∷ 5 ∷ 2 ∷ 3 ∷ 0 ∷ 1 ∷ []) $
-        frees-full ! $ frees-full ! $ frees-full ! $ frees-full ! $ frees-full ! $ frees-full ! $ frees-full ! $ frees-full ! $ free0 ! $
+        frees_full ! $ frees_full ! $ frees_full ! $ frees_full ! $ frees_full ! $ frees_full ! $ frees_full ! $ frees_full ! $ free0 ! $
         by ! (gives 𝓛 asking.ended (asking.clauses 𝓛 mem run) (κ, tt) (q, tt) tt (s, (c, rest)) at tt v t (tt, (tt, (tt, (tt, (tt, (tt, tt)))))) (fact_i 𝓤 _ (emp 𝓤) (subst (λ (x : Reader). AccessGives x.table.now tasks signals count last x.place t) e told))))))))))))))
 
   asking_meets : Meets 𝓛 asking.signature (WpFn 𝓤 H 𝓣.C 𝓣.Λ code.function) (asking.spec 𝓛 mem run)
@@ -106,9 +106,9 @@ module _ {M : Type 1} {𝓤 : Ura M} (𝓛 : Logic 𝓤) (mem : Memory → SProp
       (λ κs. (shr_slice_Tells (named 0) κs.0 u8, (LL.tells C₁.the_type C₁'.the_laws, (uint_Tells w64, (uint_Tells w64, (uint_Tells w64, (LL.tells X.the_type X'.the_laws, tt)))))))
       (λ κs qs bounds a g are. walk κs.0 qs.0 a.0 a.1.0 a.1.1.0 a.1.1.1.0 a.1.1.1.1.0 a.1.1.1.1.1.0 are.0 are.1.0 are.1.1.0 are.1.1.1.0 are.1.1.1.1.0 are.1.1.1.1.1.0)
 
-pub access-at-spec : {M : Type 1} → stated.statement M
+pub access_at_spec : {M : Type 1} → stated.statement M
 unfolding code.routine tables_of
-access-at-spec 𝓤 𝓛 𝓜 𝓡 =
+access_at_spec 𝓤 𝓛 𝓜 𝓡 =
     entered 𝓤 𝓛.H (triple_of 𝓛 asking.signature (asking.spec 𝓛 𝓜.mem 𝓡.run)) (tables 𝓤 𝓛.H 𝓜 𝓡 code.env).C (tables 𝓤 𝓛.H 𝓜 𝓡 code.env).Λ name code.function (code.unfolded 𝓤 𝓛.H 𝓜 𝓡)
     (asking_meets 𝓛 𝓜.mem 𝓡.run (tables_of 𝓤 𝓛.H 𝓜 (tables 𝓤 𝓛.H 𝓜 𝓡 code.env))
     (cited 𝓤 𝓛.H (Placed 𝓛 𝓜.mem 𝓡.run) 𝓜 𝓡 code.env placed-def.name placed-def.routine code.calls-reader::placed (placed-thm.met 𝓤 𝓛 𝓜 𝓡))

@@ -28,8 +28,8 @@ use denote.Triple.Spec.{Meets, triple_of}
 use denote.Triple.Table.{entered}
 use lib.Dec.{lit<}
 use Rattle.reader.specs.declared.Reader.{Reader}
-use Rattle.reader.proofs.Held.{bytesVal, bytesOwn, readerOwn, shuts}
-use Rattle.reader.proofs.Silent.{Done, gives, meets, frees-full}
+use Rattle.reader.proofs.Held.{bytes_val, bytes_own, reader_own, shuts}
+use Rattle.reader.proofs.Silent.{Done, gives, meets, frees_full}
 use Rattle.records.specs.contracts.Cursor as C₁
 use Rattle.records.proofs.Cursor.TheLaws as C₁'
 use Rattle.reader.proofs.Reader.TheLaws as T'
@@ -47,25 +47,25 @@ module _ {M : Type 1} {𝓤 : Ura M} (𝓛 : Logic 𝓤) (mem : Memory → SProp
     opened = record { table = s; place = record { at = 0 } }
 
     abbrev at : Vals new.signature (κ, tt)
-    at = (bytesVal s ∷ [], tt)
+    at = (bytes_val s ∷ [], tt)
 
-    made : ent 𝓤 (on_entry 𝓛 new.signature (κ, tt) (q, tt) (s, tt) at) (⋆ 𝓛 (‵ (readerOwn κ opened) ∷ (‵ (flft κ q) ⊛ ‵ ftrue) ∷ []))
+    made : ent 𝓤 (on_entry 𝓛 new.signature (κ, tt) (q, tt) (s, tt) at) (⋆ 𝓛 (‵ (reader_own κ opened) ∷ (‵ (flft κ q) ⊛ ‵ ftrue) ∷ []))
     made =
-        qed 𝓛 ((‵ (flft κ q) ⊛ ‵ ftrue) ∷ ‵ (fsep (bytesOwn κ s) ftrue) ∷ []) ∵ move ! (1 ∷ []) $ fsplit ! $
+        qed 𝓛 ((‵ (flft κ q) ⊛ ‵ ftrue) ∷ ‵ (fsep (bytes_own κ s) ftrue) ∷ []) ∵ move ! (1 ∷ []) $ fsplit ! $
         owned ! C₁.the_row (Is C₁.the_row) (LL.makes C₁.the_type C₁'.the_plain 𝓛) opened.place _ (LL.owes C₁.the_type C₁'.the_laws opened.place ((refl, lit< tt), tt)) $
         -- [what the place owns; what the table owns; true; the token]
-        move ! (0 ∷ 2 ∷ []) $ fjoin ! $ move ! (1 ∷ 0 ∷ []) $ fjoin ! $ use1 𝓛 (‵ (readerOwn κ opened)) (shuts 𝓛 κ s opened.place) $ done !
+        move ! (0 ∷ 2 ∷ []) $ fjoin ! $ move ! (1 ∷ 0 ∷ []) $ fjoin ! $ use1 𝓛 (‵ (reader_own κ opened)) (shuts 𝓛 κ s opened.place) $ done !
 
-    walk : Is (ShrSlice (named 0) κ u8) s (bytesVal s ∷ [])
-        → ent 𝓤 (on_entry 𝓛 new.signature (κ, tt) (q, tt) (s, tt) at) (WpFn 𝓤 H 𝓣.C 𝓣.Λ code.function (bytesVal s ∷ []) (Done 𝓛 new.ended (new.clauses 𝓛 mem run) (κ, tt) (q, tt) tt (s, tt) at tt))
+    walk : Is (ShrSlice (named 0) κ u8) s (bytes_val s ∷ [])
+        → ent 𝓤 (on_entry 𝓛 new.signature (κ, tt) (q, tt) (s, tt) at) (WpFn 𝓤 H 𝓣.C 𝓣.Λ code.function (bytes_val s ∷ []) (Done 𝓛 new.ended (new.clauses 𝓛 mem run) (κ, tt) (q, tt) tt (s, tt) at tt))
     walk s-is =
-        let wt = ((shr_slice_Lawful 𝓛 (named 0) κ u8).typed s (bytesVal s ∷ []) s-is).0 in
-        qed 𝓛 (raw (on_entry 𝓛 new.signature (κ, tt) (q, tt) (s, tt) at) ∷ []) ∵ use1 𝓛 (‵ (readerOwn κ opened) ⊛ (‵ (flft κ q) ⊛ ‵ ftrue)) made $ split ! $ enter ! 𝓣.C 𝓣.Λ code.function (bytesVal s ∷ []) _ $
+        let wt = ((shr_slice_Lawful 𝓛 (named 0) κ u8).typed s (bytes_val s ∷ []) s-is).0 in
+        qed 𝓛 (raw (on_entry 𝓛 new.signature (κ, tt) (q, tt) (s, tt) at) ∷ []) ∵ use1 𝓛 (‵ (reader_own κ opened) ⊛ (‵ (flft κ q) ⊛ ‵ ftrue)) made $ split ! $ enter ! 𝓣.C 𝓣.Λ code.function (bytes_val s ∷ []) _ $
         alloc1 ! (λ l₀. alloc1 ! (λ l₁. alloc1 ! (λ l₂. alloc0 ! $ params1 ! $ pass1 ! (init ! 2 refl wt) $ pass0 ! $
         -- [room for the place; …; the table; …; room for the reader; …; what the reader owns; the token]
         assigns ! (agg ! (and_then ! (lit ! tt) (no_more !))) (from ! (stop !)) (init ! 0 refl (tt, (record { fits = lit< tt }, tt))) $
         assigns ! (agg ! (and_then ! (load ! (from ! (stop !)) (look ! 2 refl)) (and_then ! (load ! (from ! (stop !)) (look ! 0 refl)) (no_more !)))) (from ! (stop !)) (init ! 4 refl (tt, (wt.1, ((record { fits = lit< tt }, tt), tt)))) $
-        returns ! (look ! 4 refl) $ keep ! (4 ∷ 5 ∷ 2 ∷ 3 ∷ 0 ∷ 1 ∷ 6 ∷ 7 ∷ []) $ frees-full ! $ frees-full ! $ frees-full ! $ free0 ! $
+        returns ! (look ! 4 refl) $ keep ! (4 ∷ 5 ∷ 2 ∷ 3 ∷ 0 ∷ 1 ∷ 6 ∷ 7 ∷ []) $ frees_full ! $ frees_full ! $ frees_full ! $ free0 ! $
         by ! (gives 𝓛 new.ended (new.clauses 𝓛 mem run) (κ, tt) (q, tt) tt (s, tt) at tt (T'.lowered opened) opened (tt, tt) (fact_i 𝓤 _ (emp 𝓤) refl)))))
 
   new_meets : Meets 𝓛 new.signature (WpFn 𝓤 H 𝓣.C 𝓣.Λ code.function) (new.spec 𝓛 mem run)

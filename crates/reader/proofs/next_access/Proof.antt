@@ -37,9 +37,9 @@ use Rattle.rules.proofs.Access.TheLaws as X'
 use Rattle.records.specs.Gives.{AccessGives}
 use Rattle.reader.specs.declared.Reader.{Reader}
 use Rattle.reader.proofs.Answers.{answers}
-use Rattle.reader.proofs.Held.{named_at, bytesVal}
+use Rattle.reader.proofs.Held.{named_at, bytes_val}
 use Rattle.reader.proofs.Next.{asks}
-use Rattle.reader.proofs.Silent.{Done, gives, meets, frees-full}
+use Rattle.reader.proofs.Silent.{Done, gives, meets, frees_full}
 use Rattle.reader.specs.contracts.Reader as T
 use Rattle.reader.proofs.Reader.TheLaws as T'
 use Rattle.records.proofs.Cursor.TheLaws as C₁'
@@ -72,14 +72,14 @@ module _ {M : Type 1} {𝓤 : Ura M} (𝓛 : Logic 𝓤) (mem : Memory → SProp
 
     -- what the method is passed
     abbrev to : (Method 𝓛 mem run).Ghost
-    to = (((κ, tt), (q, tt), tt, (d.place, (d.table, rest)), (C₁'.lowered d.place ∷ [], (bytesVal d.table ∷ [], rest_at))), tt)
+    to = (((κ, tt), (q, tt), tt, (d.place, (d.table, rest)), (C₁'.lowered d.place ∷ [], (bytes_val d.table ∷ [], rest_at))), tt)
 
     walk : Holds (has_ty (T'.mir (named 0)) (T'.lowered d)) × WT (T'.lowered d) → Is usize tasks (vint w64 tasks ∷ []) → Is usize signals (vint w64 signals ∷ []) → Is usize count (vint w64 count ∷ []) → Is X.the_row last (X'.lowered last ∷ [])
         → ent 𝓤 (on_entry 𝓛 next.signature (κ, tt) (q, tt) (d, rest) at) (WpFn 𝓤 H 𝓣.C 𝓣.Λ code.function (T'.lowered d ∷ vint w64 tasks ∷ vint w64 signals ∷ vint w64 count ∷ X'.lowered last ∷ []) (Done 𝓛 next.ended (next.clauses 𝓛 mem run) (κ, tt) (q, tt) tt (d, rest) at tt))
-    walk wt tasks-is signals-is count-is last-is =
+    walk wt tasks-is signals-is count_is last-is =
         qed 𝓛 (raw (on_entry 𝓛 next.signature (κ, tt) (q, tt) (d, rest) at) ∷ []) ∵ use1 𝓛 (raw ((Method 𝓛 mem run).pre to)) (asks 𝓛 κ q d (owns (usize ∷ usize ∷ usize ∷ X.the_row ∷ []) rest rest_at)) $ enter ! 𝓣.C 𝓣.Λ code.function (T'.lowered d ∷ vint w64 tasks ∷ vint w64 signals ∷ vint w64 count ∷ X'.lowered last ∷ []) _ $
         alloc1 ! (λ l₀. alloc1 ! (λ l₁. alloc1 ! (λ l₂. alloc1 ! (λ l₃. alloc1 ! (λ l₄. alloc1 ! (λ l₅. alloc1 ! (λ l₆. alloc1 ! (λ l₇. alloc0 ! $ params1 ! $ pass1 ! (init ! 12 refl wt) $ pass1 ! (init ! 10 refl ((uint_Lawful 𝓛 w64).typed tasks _ tasks-is).0) $
-        pass1 ! (init ! 8 refl ((uint_Lawful 𝓛 w64).typed signals _ signals-is).0) $ pass1 ! (init ! 6 refl ((uint_Lawful 𝓛 w64).typed count _ count-is).0) $ pass1 ! (init ! 4 refl ((LL.lawful X.the_type X'.the_laws 𝓛).typed last _ last-is).0) $ pass0 ! $
+        pass1 ! (init ! 8 refl ((uint_Lawful 𝓛 w64).typed signals _ signals-is).0) $ pass1 ! (init ! 6 refl ((uint_Lawful 𝓛 w64).typed count _ count_is).0) $ pass1 ! (init ! 4 refl ((LL.lawful X.the_type X'.the_laws 𝓛).typed last _ last-is).0) $ pass0 ! $
         assigns ! (of_opd ! (load ! (from ! (fld ! refl (stop !))) (look_in ! 12 (sub ! 1 refl (whole !))))) (from ! (stop !)) (init ! 2 refl (tt, wt.1.1.0)) $
         assigns ! (of_opd ! (load ! (from ! (fld ! refl (stop !))) (look_in ! 12 (sub ! 0 refl (whole !))))) (from ! (stop !)) (init ! 0 refl (tt, wt.1.0)) $ move ! (16 ∷ []) $
         -- [what the method asks; the table; …; the place; …; the other parameters; …; room for _0; …]
@@ -87,18 +87,18 @@ module _ {M : Type 1} {𝓤 : Ura M} (𝓛 : Logic 𝓤) (mem : Memory → SProp
         answers ! tt κ q S.the_row u (lasts method.ended (κ, tt) (d.place, (d.table, rest))) (AccessGives d.table.now tasks signals count last d.place) (λ r told is.
         -- [the answer; the token; the table; …; the place; …; the other parameters; …; room for _0; …]
         land ! (from ! (stop !)) (init ! 16 refl ((EL.lawful S.the_type S'.the_laws 𝓛 tt).typed r _ is).0) $ returns ! (look ! 16 refl) $ keep ! (16 ∷ 17 ∷ 14 ∷ 15 ∷ 12 ∷ 13 ∷ 10 ∷ 11 ∷ 8 ∷ 9 ∷ 6 ∷ 7 ∷ 4 ∷ 5 ∷ 2 ∷ 3 ∷ 0 ∷ 1 ∷ []) $
-        frees-full ! $ frees-full ! $ frees-full ! $ frees-full ! $ frees-full ! $ frees-full ! $ frees-full ! $ frees-full ! $ free0 ! $
+        frees_full ! $ frees_full ! $ frees_full ! $ frees_full ! $ frees_full ! $ frees_full ! $ frees_full ! $ frees_full ! $ free0 ! $
         by ! (gives 𝓛 next.ended (next.clauses 𝓛 mem run) (κ, tt) (q, tt) tt (d, rest) at tt u r (tt, (tt, (tt, (tt, (tt, tt))))) (fact_i 𝓤 _ (emp 𝓤) told))))))))))))
 
-  next-meets : Meets 𝓛 next.signature (WpFn 𝓤 H 𝓣.C 𝓣.Λ code.function) (next.spec 𝓛 mem run)
-  next-meets = meets 𝓛 next.ended (next.clauses 𝓛 mem run) (WpFn 𝓤 H 𝓣.C 𝓣.Λ code.function) (WpFn-mono 𝓤 H 𝓛.laws 𝓣 code.function) ((λ κs x l. refl), ((λ κs x l. refl), ((λ κs x l. refl), ((λ κs x l. refl), ((λ κs x l. refl), tt)))))
+  next_meets : Meets 𝓛 next.signature (WpFn 𝓤 H 𝓣.C 𝓣.Λ code.function) (next.spec 𝓛 mem run)
+  next_meets = meets 𝓛 next.ended (next.clauses 𝓛 mem run) (WpFn 𝓤 H 𝓣.C 𝓣.Λ code.function) (WpFn-mono 𝓤 H 𝓛.laws 𝓣 code.function) ((λ κs x l. refl), ((λ κs x l. refl), ((λ κs x l. refl), ((λ κs x l. refl), ((λ κs x l. refl), tt)))))
       (λ κs. (LL.vals (T.the_type (named_at κs.0)) (T'.the_laws (named_at κs.0)), (uint_vals w64, (uint_vals w64, (uint_vals w64, (LL.vals X.the_type X'.the_laws, tt))))))
       (λ κs. (LL.tells (T.the_type (named_at κs.0)) (T'.the_laws (named_at κs.0)), (uint_Tells w64, (uint_Tells w64, (uint_Tells w64, (LL.tells X.the_type X'.the_laws, tt))))))
       (λ κs qs bounds a g are. walk κs.0 qs.0 a.0 a.1.0 a.1.1.0 a.1.1.1.0 a.1.1.1.1.0 ((LL.lawful (T.the_type (named_at κs.0)) (T'.the_laws (named_at κs.0)) 𝓛).typed a.0 _ are.0).0 are.1.0 are.1.1.0 are.1.1.1.0 are.1.1.1.1.0)
 
-pub next-access-spec : {M : Type 1} → stated.statement M
+pub next_access_spec : {M : Type 1} → stated.statement M
 unfolding code.routine tables_of
-next-access-spec 𝓤 𝓛 𝓜 𝓡 =
+next_access_spec 𝓤 𝓛 𝓜 𝓡 =
     entered 𝓤 𝓛.H (triple_of 𝓛 next.signature (next.spec 𝓛 𝓜.mem 𝓡.run)) (tables 𝓤 𝓛.H 𝓜 𝓡 code.env).C (tables 𝓤 𝓛.H 𝓜 𝓡 code.env).Λ name code.function (code.unfolded 𝓤 𝓛.H 𝓜 𝓡)
-    (next-meets 𝓛 𝓜.mem 𝓡.run (tables_of 𝓤 𝓛.H 𝓜 (tables 𝓤 𝓛.H 𝓜 𝓡 code.env))
+    (next_meets 𝓛 𝓜.mem 𝓡.run (tables_of 𝓤 𝓛.H 𝓜 (tables 𝓤 𝓛.H 𝓜 𝓡 code.env))
     (cited 𝓤 𝓛.H (Method 𝓛 𝓜.mem 𝓡.run) 𝓜 𝓡 code.env method-def.name method-def.routine code.calls-records::Cursor::access (method-thm.met 𝓤 𝓛 𝓜 𝓡)))

@@ -29,9 +29,9 @@ use denote.Triple.Clauses.{lasts}
 use Rattle.records.specs.Gives.{EndGives}
 use Rattle.reader.specs.declared.Reader.{Reader}
 use Rattle.reader.proofs.Answers.{answers}
-use Rattle.reader.proofs.Held.{named_at, bytesVal}
+use Rattle.reader.proofs.Held.{named_at, bytes_val}
 use Rattle.reader.proofs.Next.{asks}
-use Rattle.reader.proofs.Silent.{Done, gives, meets, frees-full}
+use Rattle.reader.proofs.Silent.{Done, gives, meets, frees_full}
 use Rattle.reader.specs.contracts.Reader as T
 use Rattle.reader.proofs.Reader.TheLaws as T'
 use Rattle.records.proofs.Cursor.TheLaws as C₁'
@@ -57,7 +57,7 @@ module _ {M : Type 1} {𝓤 : Ura M} (𝓛 : Logic 𝓤) (mem : Memory → SProp
 
     -- what the method is passed
     abbrev to : (Method 𝓛 mem run).Ghost
-    to = (((κ, tt), (q, tt), tt, (d.place, (d.table, tt)), (C₁'.lowered d.place ∷ [], (bytesVal d.table ∷ [], tt))), tt)
+    to = (((κ, tt), (q, tt), tt, (d.place, (d.table, tt)), (C₁'.lowered d.place ∷ [], (bytes_val d.table ∷ [], tt))), tt)
 
     walk : Holds (has_ty (T'.mir (named 0)) (T'.lowered d)) × WT (T'.lowered d)
         → ent 𝓤 (on_entry 𝓛 next.signature (κ, tt) (q, tt) (d, tt) at) (WpFn 𝓤 H 𝓣.C 𝓣.Λ code.function (T'.lowered d ∷ []) (Done 𝓛 next.ended (next.clauses 𝓛 mem run) (κ, tt) (q, tt) tt (d, tt) at tt))
@@ -71,17 +71,17 @@ module _ {M : Type 1} {𝓤 : Ura M} (𝓛 : Logic 𝓤) (mem : Memory → SProp
         answers ! tt κ q S.the_row u (lasts method.ended (κ, tt) (d.place, (d.table, tt))) (EndGives d.table.now d.place) (λ r told is.
         -- [the answer; the token; the table; …; the place; …; the reader; …; room for _0; …]
         land ! (from ! (stop !)) (init ! 8 refl ((EL.lawful S.the_type S'.the_laws 𝓛 tt).typed r _ is).0) $ returns ! (look ! 8 refl) $ keep ! (8 ∷ 9 ∷ 6 ∷ 7 ∷ 4 ∷ 5 ∷ 2 ∷ 3 ∷ 0 ∷ 1 ∷ []) $
-        frees-full ! $ frees-full ! $ frees-full ! $ frees-full ! $ free0 ! $
+        frees_full ! $ frees_full ! $ frees_full ! $ frees_full ! $ free0 ! $
         by ! (gives 𝓛 next.ended (next.clauses 𝓛 mem run) (κ, tt) (q, tt) tt (d, tt) at tt u r (tt, tt) (fact_i 𝓤 _ (emp 𝓤) told))))))))
 
-  next-meets : Meets 𝓛 next.signature (WpFn 𝓤 H 𝓣.C 𝓣.Λ code.function) (next.spec 𝓛 mem run)
-  next-meets = meets 𝓛 next.ended (next.clauses 𝓛 mem run) (WpFn 𝓤 H 𝓣.C 𝓣.Λ code.function) (WpFn-mono 𝓤 H 𝓛.laws 𝓣 code.function) ((λ κs x l. refl), tt)
+  next_meets : Meets 𝓛 next.signature (WpFn 𝓤 H 𝓣.C 𝓣.Λ code.function) (next.spec 𝓛 mem run)
+  next_meets = meets 𝓛 next.ended (next.clauses 𝓛 mem run) (WpFn 𝓤 H 𝓣.C 𝓣.Λ code.function) (WpFn-mono 𝓤 H 𝓛.laws 𝓣 code.function) ((λ κs x l. refl), tt)
       (λ κs. (LL.vals (T.the_type (named_at κs.0)) (T'.the_laws (named_at κs.0)), tt)) (λ κs. (LL.tells (T.the_type (named_at κs.0)) (T'.the_laws (named_at κs.0)), tt))
       (λ κs qs bounds a g are. walk κs.0 qs.0 a.0 ((LL.lawful (T.the_type (named_at κs.0)) (T'.the_laws (named_at κs.0)) 𝓛).typed a.0 _ are.0).0)
 
-pub next-end-spec : {M : Type 1} → stated.statement M
+pub next_end_spec : {M : Type 1} → stated.statement M
 unfolding code.routine tables_of
-next-end-spec 𝓤 𝓛 𝓜 𝓡 =
+next_end_spec 𝓤 𝓛 𝓜 𝓡 =
     entered 𝓤 𝓛.H (triple_of 𝓛 next.signature (next.spec 𝓛 𝓜.mem 𝓡.run)) (tables 𝓤 𝓛.H 𝓜 𝓡 code.env).C (tables 𝓤 𝓛.H 𝓜 𝓡 code.env).Λ name code.function (code.unfolded 𝓤 𝓛.H 𝓜 𝓡)
-    (next-meets 𝓛 𝓜.mem 𝓡.run (tables_of 𝓤 𝓛.H 𝓜 (tables 𝓤 𝓛.H 𝓜 𝓡 code.env))
+    (next_meets 𝓛 𝓜.mem 𝓡.run (tables_of 𝓤 𝓛.H 𝓜 (tables 𝓤 𝓛.H 𝓜 𝓡 code.env))
     (cited 𝓤 𝓛.H (Method 𝓛 𝓜.mem 𝓡.run) 𝓜 𝓡 code.env method-def.name method-def.routine code.calls-records::Cursor::end (method-thm.met 𝓤 𝓛 𝓜 𝓡)))

@@ -17,9 +17,9 @@ use Rattle.reader.specs.contracts.task_at.Key.{name}
 use Rattle.reader.proofs.task_at.Statement as stated
 use Rattle.reader.proofs.task_at.Code as code
 
-pub task-at-spec : {M : Type 1} → stated.statement M
+pub task_at_spec : {M : Type 1} → stated.statement M
 unfolding code.routine tables_of
-task-at-spec 𝓤 𝓛 𝓜 𝓡 =
+task_at_spec 𝓤 𝓛 𝓜 𝓡 =
     entered 𝓤 𝓛.H (At S.the_row TaskGives 𝓤 𝓛) (tables 𝓤 𝓛.H 𝓜 𝓡 code.env).C (tables 𝓤 𝓛.H 𝓜 𝓡 code.env).Λ name code.function (code.unfolded 𝓤 𝓛.H 𝓜 𝓡)
     (at_meets 𝓛 𝓜.mem 𝓡.run S.the_row TaskGives S'.mir (λ r u is. ((EL.lawful S.the_type S'.the_laws 𝓛 tt).typed r _ is).0) next.name (tables_of 𝓤 𝓛.H 𝓜 (tables 𝓤 𝓛.H 𝓜 𝓡 code.env))
     (cited 𝓤 𝓛.H (Placed 𝓛 𝓜.mem 𝓡.run) 𝓜 𝓡 code.env placed.name placed.routine code.calls-reader::placed (placed-thm.met 𝓤 𝓛 𝓜 𝓡))

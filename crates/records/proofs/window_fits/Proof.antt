@@ -26,8 +26,8 @@ last : (p a b : ℕ) → a < b → b ≤ p → leb p longest ≡ windowed p a b
 unfolding windowed
 last p a b h k = sym (ap (λ (t : Bool). t && leb p longest) (ap₂ ◌&&◌ (lt-ltb a b h) (le-leb b p k)))
 
-pub window-fits-spec : {M : Type 1} → statement M
-window-fits-spec =
+pub window_fits_spec : {M : Type 1} → statement M
+window_fits_spec =
     tie.close
     (tie.spec
     (λ c. empty _ _ _ (omega arith))

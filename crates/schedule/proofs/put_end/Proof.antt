@@ -6,8 +6,8 @@ use lib.ListN.{length-set}
 use Rattle.schedule.proofs.put_end.Statement.{statement}
 use Rattle.schedule.proofs.put_end.Tie as tie
 
-pub put-end-spec : {M : Type 1} → statement M
-put-end-spec =
+pub put_end_spec : {M : Type 1} → statement M
+put_end_spec =
     tie.close
     (tie.spec
     (λ c. search rules)

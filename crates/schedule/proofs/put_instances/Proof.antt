@@ -5,18 +5,18 @@ use Prim.Native.Nat.{ℕ, ◌+◌, ◌*◌, ◌-◌, ◌≤◌}
 use native.Mathlib.Omega.{arith}
 use lib.ListN.{length}
 use Rattle.form.specs.declared.sides.Side.{Side}
-use Rattle.form.specs.Records.{markOf, useOf, instanceParts}
+use Rattle.form.specs.Records.{mark_of, use_of, instance_parts}
 use Rattle.form.specs.Form.{walked}
-use Rattle.form.proofs.Walks.{walked_none, walked-turn}
+use Rattle.form.proofs.Walks.{walked_none, walked_turn}
 use Rattle.schedule.specs.Writing.{put}
-use Rattle.schedule.proofs.Puts.{use-put, use-length}
+use Rattle.schedule.proofs.Puts.{use_put_lem, use_length}
 use Rattle.schedule.proofs.put_instances.Statement.{statement}
 use Rattle.schedule.proofs.put_instances.Tie as tie
 
 abbrev invariant-loop : tie.invariant-loop
 invariant-loop mark signal task records uses first out₀ start used₀ i₀ out used i =
     (i ≤ records) × (used ≡ first + i) × (start ≡ 4 * (signal + 1)) × (length out ≡ length out₀)
-    × ((counts : List ℕ) (side : Side) → mark ≡ markOf side → record { out = out; used = used } ≡ walked (put counts uses) (instanceParts side signal task i) (record { out = out₀; used = first }))
+    × ((counts : List ℕ) (side : Side) → mark ≡ mark_of side → record { out = out; used = used } ≡ walked (put counts uses) (instance_parts side signal task i) (record { out = out₀; used = first }))
 
 abbrev decreases-loop : tie.decreases-loop
 decreases-loop mark signal task records uses first out₀ start used₀ i₀ out used i = records - i
@@ -31,8 +31,8 @@ loop-again c =
       omega arith,
       omega arith,
       refl,
-      use-length _ _ _ _ _ _ _ said.put-use.ensures ∙ i.invariant.3,
-      λ counts side e. walked-turn _ (λ i. useOf side _ _ i ∷ []) _ _ (i.invariant.4 counts side e) (use-put _ _ side _ _ _ _ e refl said.put-use.ensures),
+      use_length _ _ _ _ _ _ _ said.put-use.ensures ∙ i.invariant.3,
+      λ counts side e. walked_turn _ (λ i. use_of side _ _ i ∷ []) _ _ (i.invariant.4 counts side e) (use_put_lem _ _ side _ _ _ _ e refl said.put-use.ensures),
     )
 
 returns : tie.Need-returns invariant-loop decreases-loop
@@ -40,8 +40,8 @@ returns c =
     let e : c.before.loop.i ≡ c.before.before.before.args.records = omega arith in
     (λ counts side m. rw e at (c.before.loop.invariant.4 counts side m), omega arith)
 
-pub put-instances-spec : {M : Type 1} → statement M
-put-instances-spec =
+pub put_instances_spec : {M : Type 1} → statement M
+put_instances_spec =
     tie.close
     (tie.spec
     invariant-loop

@@ -8,9 +8,9 @@ use Rattle.state.specs.Rows.{advanced}
 use Rattle.state.proofs.advance.Statement.{statement}
 use Rattle.state.proofs.advance.Tie as tie
 
-pub advance-spec : {M : Type 1} → statement M
+pub advance_spec : {M : Type 1} → statement M
 unfolding advanced
-advance-spec =
+advance_spec =
     tie.close
     (tie.spec
     (λ c. search rules)

@@ -1,13 +1,13 @@
 -- One element is set to the signal's word, if the instance has the access.
 use borrow.Author.Rules.{rules}
 use mathlib.Core.Path.{sym, ◌∙◌}
-use Rattle.state.specs.Rows.{save, fillOne}
+use Rattle.state.specs.Rows.{save, fill_one}
 use Rattle.state.proofs.fill_one.Statement.{statement}
 use Rattle.state.proofs.fill_one.Tie as tie
 
-pub fill-one-spec : {M : Type 1} → statement M
-unfolding fillOne
-fill-one-spec =
+pub fill_one_spec : {M : Type 1} → statement M
+unfolding fill_one
+fill_one_spec =
     tie.close
     (tie.spec
     (λ c κs. search rules)

@@ -3,8 +3,8 @@ use borrow.Author.Rules.{rules}
 use Rattle.state.proofs.fill_task.Statement.{statement}
 use Rattle.state.proofs.fill_task.Tie as tie
 
-pub fill-task-spec : {M : Type 1} → statement M
-fill-task-spec =
+pub fill_task_spec : {M : Type 1} → statement M
+fill_task_spec =
     tie.close
     (tie.spec
     (λ c. search rules)

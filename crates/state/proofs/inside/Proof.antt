@@ -1,13 +1,13 @@
 -- The instance that is inside its window.
 use borrow.Author.Rules.{rules}
 use mathlib.Core.Path.{◌∙◌}
-use Rattle.state.specs.Rows.{insideOf}
+use Rattle.state.specs.Rows.{inside_of}
 use Rattle.state.proofs.inside.Statement.{statement}
 use Rattle.state.proofs.inside.Tie as tie
 
-pub inside-spec : {M : Type 1} → statement M
-unfolding insideOf
-inside-spec =
+pub inside_spec : {M : Type 1} → statement M
+unfolding inside_of
+inside_spec =
     tie.close
     (tie.spec
     (λ c κs. search rules)

@@ -7,9 +7,9 @@ use Rattle.theory.proofs.Tests.{both}
 use Rattle.state.proofs.is_fit.Statement.{statement}
 use Rattle.state.proofs.is_fit.Tie as tie
 
-pub is-fit-spec : {M : Type 1} → statement M
+pub is_fit_spec : {M : Type 1} → statement M
 unfolding fit
-is-fit-spec =
+is_fit_spec =
     tie.close
     (tie.spec
     (λ c. search rules)
@@ -20,4 +20,4 @@ is-fit-spec =
     (λ c κs. search rules)
     (λ c κs. search rules)
     (λ c κs. search rules)
-    (λ c. c.both2.ensures ∙ ap₂ ◌&&◌ c.before.before.before.before.is-running.ensures (c.before.both.ensures ∙ ap₂ ◌&&◌ c.before.before.before.tasks-fit.ensures c.before.before.positions-fit.ensures)))
+    (λ c. c.both2.ensures ∙ ap₂ ◌&&◌ c.before.before.before.before.is-running.ensures (c.before.both.ensures ∙ ap₂ ◌&&◌ c.before.before.before.tasks_fit.ensures c.before.before.positions-fit.ensures)))

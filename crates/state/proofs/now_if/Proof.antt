@@ -4,8 +4,8 @@ use mathlib.Core.Path.{◌∙◌}
 use Rattle.state.proofs.now_if.Statement.{statement}
 use Rattle.state.proofs.now_if.Tie as tie
 
-pub now-if-spec : {M : Type 1} → statement M
-now-if-spec =
+pub now_if_spec : {M : Type 1} → statement M
+now_if_spec =
     tie.close
     (tie.spec
     (λ c κs. search rules)

@@ -8,8 +8,8 @@ use Rattle.state.specs.Parts.{tick}
 use Rattle.state.proofs.phase.Statement.{statement}
 use Rattle.state.proofs.phase.Tie as tie
 
-pub phase-spec : {M : Type 1} → statement M
-phase-spec =
+pub phase_spec : {M : Type 1} → statement M
+phase_spec =
     tie.close
     (tie.spec
     (λ c. search rules)

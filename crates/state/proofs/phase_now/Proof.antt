@@ -4,8 +4,8 @@ use mathlib.Core.Path.{◌∙◌}
 use Rattle.state.proofs.phase_now.Statement.{statement}
 use Rattle.state.proofs.phase_now.Tie as tie
 
-pub phase-now-spec : {M : Type 1} → statement M
-phase-now-spec =
+pub phase_now_spec : {M : Type 1} → statement M
+phase_now_spec =
     tie.close
     (tie.spec
     (λ c κs. search rules)

@@ -3,29 +3,29 @@ use native.Mathlib.Omega.{arith}
 use borrow.Author.Rules.{rules}
 use mathlib.Core.Path.{◌≡◌}
 use Prim.Native.Nat.{◌-◌, ◌≤◌}
-use Rattle.rules.specs.Table.{mostSignals}
+use Rattle.rules.specs.Table.{most_signals}
 use Rattle.rules.specs.Words.{up_to}
-use Rattle.state.specs.Rows.{releaseOne, released}
-use Rattle.state.proofs.Folds.{acted-none, acted-turn, acted-end}
+use Rattle.state.specs.Rows.{release_one, released}
+use Rattle.state.proofs.Folds.{acted_none, acted_turn, acted_end}
 use Rattle.state.proofs.release_all.Statement.{statement}
 use Rattle.state.proofs.release_all.Tie as tie
 
 abbrev invariant-loop : tie.invariant-loop
-invariant-loop numbers₀ s₀ numbers s = (s ≤ mostSignals) × (numbers ≡ up_to s releaseOne numbers₀)
+invariant-loop numbers₀ s₀ numbers s = (s ≤ most_signals) × (numbers ≡ up_to s release_one numbers₀)
 
 abbrev decreases-loop : tie.decreases-loop
-decreases-loop numbers₀ s₀ numbers s = mostSignals - s
+decreases-loop numbers₀ s₀ numbers s = most_signals - s
 
-pub release-all-spec : {M : Type 1} → statement M
+pub release_all_spec : {M : Type 1} → statement M
 unfolding released
-release-all-spec =
+release_all_spec =
     tie.close
     (tie.spec
     invariant-loop
     decreases-loop
-    (λ c. (omega arith, acted-none _ _))
+    (λ c. (omega arith, acted_none _ _))
     (λ c κs. search rules)
     (λ c. search rules)
     (λ c. search rules)
-    (λ c. (omega arith, acted-turn _ _ _ c.release-one.ensures c.before.before.before.loop.invariant.1))
-    (λ c. acted-end _ _ _ mostSignals c.before.loop.invariant.1 (omega arith) (omega arith)))
+    (λ c. (omega arith, acted_turn _ _ _ c.release-one.ensures c.before.before.before.loop.invariant.1))
+    (λ c. acted_end _ _ _ most_signals c.before.loop.invariant.1 (omega arith) (omega arith)))

@@ -7,9 +7,9 @@ use Rattle.state.specs.Rows.{save}
 use Rattle.state.proofs.save.Statement.{statement}
 use Rattle.state.proofs.save.Tie as tie
 
-pub save-spec : {M : Type 1} → statement M
+pub save_spec : {M : Type 1} → statement M
 unfolding save
-save-spec =
+save_spec =
     tie.close
     (tie.spec
     (λ c κs. search rules)

@@ -1,6 +1,6 @@
 -- `sweep::handle` meets its contract: which of the two it is, the test says. Assumes nothing.
 use borrow.Author.Tests.{eq-eqb, ne_eqb}
-use Rattle.sweep.specs.Pass.{handledOf}
+use Rattle.sweep.specs.Pass.{handled_of}
 use Rattle.sweep.proofs.handle.Statement.{statement}
 use Rattle.sweep.proofs.handle.Tie as tie
 
@@ -17,15 +17,15 @@ publish-at-requires c κs =
     (pre.0.fits, at.0, at.1, pre.1)
 
 returns : tie.Need-returns
-unfolding handledOf
+unfolding handled_of
 returns c = rw (eq-eqb _ 1 c.before.before.before.if1.true, ← c.before.before.read_at.ensures _) c.write-at.ensures
 
 returns-2 : tie.Need-returns-2
-unfolding handledOf
+unfolding handled_of
 returns-2 c = rw (ne_eqb _ 1 c.before.before.if1.false) c.publish-at.ensures
 
-pub handle-spec : {M : Type 1} → statement M
-handle-spec =
+pub handle_spec : {M : Type 1} → statement M
+handle_spec =
     tie.close
     (tie.spec
     read-at-requires

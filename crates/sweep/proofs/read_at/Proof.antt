@@ -20,8 +20,8 @@ returns-2 : tie.Need-returns-2
 unfolding read_of
 returns-2 c = λ held. rw (eq-eqb _ 1 c.before.before.before.before.before.before.before.before.before.before.if1.false, c.larger.ensures, c.before.before.before.before.both.ensures, c.before.before.before.before.before.before.element-at.ensures)
 
-pub read-at-spec : {M : Type 1} → statement M
-read-at-spec =
+pub read_at_spec : {M : Type 1} → statement M
+read_at_spec =
     tie.close
     (tie.spec
     returns

@@ -10,8 +10,8 @@ returns c = rw (eq-eqb _ 1 c.if1.true)
 returns-2 : tie.Need-returns-2
 returns-2 c = rw (ne_eqb _ 1 c.if1.false)
 
-pub records-of-spec : {M : Type 1} → statement M
-records-of-spec =
+pub records_of_spec : {M : Type 1} → statement M
+records_of_spec =
     tie.close
     (tie.spec
     (λ c. search rules)

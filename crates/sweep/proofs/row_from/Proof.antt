@@ -3,7 +3,7 @@ use Prim.Native.Nat.{◌-◌, ◌≤◌}
 use mathlib.Core.Path.{◌≡◌, refl}
 use native.Mathlib.Omega.{arith}
 use Rattle.sweep.specs.Pass.{IsRow}
-use Rattle.sweep.proofs.Rows.{row-starts, row-turn, row_room}
+use Rattle.sweep.proofs.Rows.{row_starts, row_turn, row_room}
 use Rattle.sweep.proofs.row_from.Statement.{statement}
 use Rattle.sweep.proofs.row_from.Tie as tie
 
@@ -14,7 +14,7 @@ abbrev decreases-loop : tie.decreases-loop
 decreases-loop h grid s right from tasks at₀ end₀ k₀ at end k = tasks.count - k
 
 loop-holds : tie.Need-loop-init invariant-loop decreases-loop
-loop-holds c = (omega arith, row-starts _ _ _ _ _ _ refl)
+loop-holds c = (omega arith, row_starts _ _ _ _ _ _ refl)
 
 add_at : tie.Need-overflow-add-at invariant-loop decreases-loop
 add_at c =
@@ -35,15 +35,15 @@ add-end c =
 loop-again : tie.Need-loop-preserved invariant-loop decreases-loop
 loop-again c =
     let pre = c.before.before.before.before.requires in
-    (omega arith, row-turn _ _ _ _ _ _ _ _ _ _ c.before.before.before.loop.invariant.1 c.before.before.loop-test.true pre.0 pre.1 c.records-of.ensures)
+    (omega arith, row_turn _ _ _ _ _ _ _ _ _ _ c.before.before.before.loop.invariant.1 c.before.before.loop-test.true pre.0 pre.1 c.records-of.ensures)
 
 returns : tie.Need-returns invariant-loop decreases-loop
 returns c =
     let e : c.before.loop.k ≡ c.before.before.args.t1.count = omega arith in
     rw e at c.before.loop.invariant.1
 
-pub row-from-spec : {M : Type 1} → statement M
-row-from-spec =
+pub row_from_spec : {M : Type 1} → statement M
+row_from_spec =
     tie.close
     (tie.spec
     invariant-loop

@@ -1,13 +1,13 @@
 -- `sweep::write_at` meets its contract: the element is below 32. Assumes nothing.
 use borrow.Author.Tests.{eq-eqb, ne_eqb}
 use native.Mathlib.Omega.{arith}
-use Rattle.sweep.specs.Pass.{wroteOf}
+use Rattle.sweep.specs.Pass.{wrote_of}
 use borrow.Author.Rules.{rules}
 use Rattle.sweep.proofs.write_at.Statement.{statement}
 use Rattle.sweep.proofs.write_at.Tie as tie
 
 returns : tie.Need-returns
-unfolding wroteOf
+unfolding wrote_of
 returns c = rw (ne_eqb _ 1 c.if1.true)
 
 element-at-requires : tie.Need-element-at-requires
@@ -26,11 +26,11 @@ element-write-held : tie.Need-element-write-held
 element-write-held c = element-copy-out-free c.before.before
 
 returns-2 : tie.Need-returns-2
-unfolding wroteOf
+unfolding wrote_of
 returns-2 c = rw (eq-eqb _ 1 c.before.before.before.before.before.before.before.if1.false, c.both.ensures, c.before.before.before.element-at.ensures)
 
-pub write-at-spec : {M : Type 1} → statement M
-write-at-spec =
+pub write_at_spec : {M : Type 1} → statement M
+write_at_spec =
     tie.close
     (tie.spec
     returns

@@ -5,9 +5,9 @@ use Rattle.fields.proofs.Whens.{ladder}
 use Rattle.console.proofs.command.of_name.Statement.{statement}
 use Rattle.console.proofs.command.of_name.Tie as tie
 
-pub of-name-spec : {M : Type 1} → statement M
+pub of_name_spec : {M : Type 1} → statement M
 unfolding alone
-of-name-spec =
+of_name_spec =
     tie.close
     (tie.spec
     (λ c. search rules)

@@ -5,8 +5,8 @@ use Rattle.console.specs.Commands.{plan_of}
 use Rattle.console.proofs.command.plan.Statement.{statement}
 use Rattle.console.proofs.command.plan.Tie as tie
 
-pub plan-spec : {M : Type 1} → statement M
-plan-spec =
+pub plan_spec : {M : Type 1} → statement M
+plan_spec =
     tie.close
     (tie.spec
     (λ c. search rules)

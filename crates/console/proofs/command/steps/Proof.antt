@@ -5,8 +5,8 @@ use Rattle.console.specs.Commands.{steps_of}
 use Rattle.console.proofs.command.steps.Statement.{statement}
 use Rattle.console.proofs.command.steps.Tie as tie
 
-pub steps-spec : {M : Type 1} → statement M
-steps-spec =
+pub steps_spec : {M : Type 1} → statement M
+steps_spec =
     tie.close
     (tie.spec
     (λ c. search rules)

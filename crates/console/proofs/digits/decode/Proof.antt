@@ -6,8 +6,8 @@ use lib.ListN.{length, drop}
 use borrow.Author.Rules.{rules}
 use Rattle.console.specs.Page.{page, put_all}
 use Rattle.console.specs.Digits.{bytes_of}
-use Rattle.console.proofs.Turns.{bytes-turn, bytes-end}
-use Rattle.console.proofs.Figures.{put_one}
+use Rattle.console.proofs.Turns.{bytes_turn, bytes_end}
+use Rattle.console.proofs.Figures.{put_one_lem}
 use Rattle.console.proofs.digits.decode.Statement.{statement}
 use Rattle.console.proofs.digits.decode.Tie as tie
 
@@ -26,14 +26,14 @@ loop-again c =
     let start = at-loop.before.before.before in (
       omega arith,
       at-put.put.auto.0 ∙ at-loop.loop.invariant.1,
-      ap (put_all (bytes_of (drop (at-loop.loop.i + 2) start.args.word.now))) (put_one _ at-put.put.ensures at_pair.pair.ensures) ∙ sym (bytes-turn start.args.word.now at-loop.loop.i at-loop-test.loop-test.true _) ∙ at-loop.loop.invariant.2,
+      ap (put_all (bytes_of (drop (at-loop.loop.i + 2) start.args.word.now))) (put_one_lem _ at-put.put.ensures at_pair.pair.ensures) ∙ sym (bytes_turn start.args.word.now at-loop.loop.i at-loop-test.loop-test.true _) ∙ at-loop.loop.invariant.2,
     )
 
 returns : tie.Need-returns invariant-loop decreases-loop
-returns c = sym (bytes-end c.before.before.before.before.args.word.now c.before.loop.i c.loop-test.false _) ∙ c.before.loop.invariant.2
+returns c = sym (bytes_end c.before.before.before.before.args.word.now c.before.loop.i c.loop-test.false _) ∙ c.before.loop.invariant.2
 
-pub decode-spec : {M : Type 1} → statement M
-decode-spec =
+pub decode_spec : {M : Type 1} → statement M
+decode_spec =
     tie.close
     (tie.spec
     invariant-loop

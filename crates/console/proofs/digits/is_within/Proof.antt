@@ -4,9 +4,9 @@ use Rattle.console.specs.Digits.{within}
 use Rattle.console.proofs.digits.is_within.Statement.{statement}
 use Rattle.console.proofs.digits.is_within.Tie as tie
 
-pub is-within-spec : {M : Type 1} → statement M
+pub is_within_spec : {M : Type 1} → statement M
 unfolding within
-is-within-spec =
+is_within_spec =
     tie.close
     (tie.spec
     (λ c. simp (lt-leb _ _ c.if1.true))

@@ -5,9 +5,9 @@ use Rattle.fields.proofs.Whens.{ladder}
 use Rattle.console.proofs.digits.number.Statement.{statement}
 use Rattle.console.proofs.digits.number.Tie as tie
 
-pub number-spec : {M : Type 1} → statement M
+pub number_spec : {M : Type 1} → statement M
 unfolding number_of
-number-spec =
+number_spec =
     tie.close
     (tie.spec
     (λ c. search ladder depth 9)

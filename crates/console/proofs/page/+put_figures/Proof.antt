@@ -1,7 +1,7 @@
 -- `put_figures` meets its contract: the figures in front by a call of its own with one fewer, then the last. Assumes nothing.
 use mathlib.Core.Path.{◌∙◌}
 use native.Mathlib.Omega.{arith}
-use Rattle.console.proofs.Figures.{figures-none, figures-one, figures-more}
+use Rattle.console.proofs.Figures.{figures_none, figures_one, figures_more}
 use Prim.Native.Nat.{ℕ, ◌<◌}
 use borrow.Fn.Kinds.{In}
 use borrow.Fn.PlainCycle.{Measures, is, falls, and}
@@ -25,8 +25,8 @@ abbrev put-figures-below : ℕ → In 1 put-figures-kinds.ps
 put-figures-below t =
     and 1 put-figures-kinds.ps (falls 1 put-figures-kinds.ps ◌<◌ μ-put-figures t) put-figures.Pre
 
-pub +put-figures-spec : {M : Type 1} → statement M
-+put-figures-spec = close μ-put-figures λ t. put-figures-lts.spec (
+pub +put_figures_spec : {M : Type 1} → statement M
++put_figures_spec = close μ-put-figures λ t. put-figures-lts.spec (
   glyph-reads.Asked,
   glyph-reads.Learnt,
   put_reads.Asked,
@@ -36,7 +36,7 @@ pub +put-figures-spec : {M : Type 1} → statement M
 )
     (put-figures-at t)
     put-figures.Post
-    (λ c. figures-none _ _ _ c.if1.true)
+    (λ c. figures_none _ _ _ c.if1.true)
     (λ c. omega arith)
     (λ c κs. omega arith)
     (λ c κs. tt)
@@ -46,7 +46,7 @@ pub +put-figures-spec : {M : Type 1} → statement M
     let at-glyph = at-put.before in
     let at-if2 = at-glyph.before.before in
     let at-if1 = at-if2.before in
-    figures-one _ _ _ at-if1.if1.false at-if2.if2.true at-put.put.ensures at-glyph.glyph.ensures)
+    figures_one _ _ _ at-if1.if1.false at-if2.if2.true at-put.put.ensures at-glyph.glyph.ensures)
     (λ c. omega arith)
     (λ c κs. (omega arith, tt))
     (λ c. omega arith)
@@ -59,4 +59,4 @@ pub +put-figures-spec : {M : Type 1} → statement M
     let at-put-figures = at-glyph2.before.before.before.before in
     let at-if2 = at-put-figures.before.before in
     let at-if1 = at-if2.before in
-    figures-more _ _ _ at-if1.if1.false at-if2.if2.false at-put-figures.put-figures.ensures at-put2.put2.ensures at-glyph2.glyph2.ensures)
+    figures_more _ _ _ at-if1.if1.false at-if2.if2.false at-put-figures.put-figures.ensures at-put2.put2.ensures at-glyph2.glyph2.ensures)

@@ -6,8 +6,8 @@ use borrow.Author.Rules.{rules}
 use Rattle.console.proofs.page.front.Statement.{statement}
 use Rattle.console.proofs.page.front.Tie as tie
 
-pub front-spec : {M : Type 1} → statement M
-front-spec =
+pub front_spec : {M : Type 1} → statement M
+front_spec =
     tie.close
     (tie.spec
     (λ c. sym (take_all _ _ c.if1.true))

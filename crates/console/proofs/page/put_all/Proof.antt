@@ -5,7 +5,7 @@ use native.Mathlib.Omega.{arith}
 use lib.ListN.{length, drop}
 use borrow.Author.Rules.{rules}
 use Rattle.console.specs.Page.{page, put_all}
-use Rattle.console.proofs.Turns.{put-turn, put-end}
+use Rattle.console.proofs.Turns.{put_turn, put_end}
 use Rattle.console.proofs.page.put_all.Statement.{statement}
 use Rattle.console.proofs.page.put_all.Tie as tie
 
@@ -23,14 +23,14 @@ loop-again c =
     let start = at-loop.before.before.before in (
       omega arith,
       at-put.put.auto.0 ∙ at-loop.loop.invariant.1,
-      ap (put_all (drop (at-loop.loop.i + 1) start.args.bytes.now)) at-put.put.ensures ∙ sym (put-turn start.args.bytes.now at-loop.loop.i at-loop-test.loop-test.true _) ∙ at-loop.loop.invariant.2,
+      ap (put_all (drop (at-loop.loop.i + 1) start.args.bytes.now)) at-put.put.ensures ∙ sym (put_turn start.args.bytes.now at-loop.loop.i at-loop-test.loop-test.true _) ∙ at-loop.loop.invariant.2,
     )
 
 returns : tie.Need-returns invariant-loop decreases-loop
-returns c = sym (put-end c.before.before.before.before.args.bytes.now c.before.loop.i c.loop-test.false _) ∙ c.before.loop.invariant.2
+returns c = sym (put_end c.before.before.before.before.args.bytes.now c.before.loop.i c.loop-test.false _) ∙ c.before.loop.invariant.2
 
-pub put-all-spec : {M : Type 1} → statement M
-put-all-spec =
+pub put_all_spec : {M : Type 1} → statement M
+put_all_spec =
     tie.close
     (tie.spec
     invariant-loop

@@ -4,13 +4,13 @@ use mathlib.Core.Path.{◌≡◌, refl, sym, ap, ◌∙◌}
 use native.Mathlib.Omega.{arith}
 use lib.ListN.{length, drop}
 use borrow.Author.Rules.{rules}
-use Rattle.console.specs.Page.{page, put_all, pairsOf}
-use Rattle.console.proofs.Turns.{pairs-turn, pairs_end}
+use Rattle.console.specs.Page.{page, put_all, pairs_of}
+use Rattle.console.proofs.Turns.{pairs_turn, pairs_end}
 use Rattle.console.proofs.page.put_pairs.Statement.{statement}
 use Rattle.console.proofs.page.put_pairs.Tie as tie
 
 abbrev invariant-loop : tie.invariant-loop
-invariant-loop out₀ at bytes end₀ i₀ out end i = (i ≤ length bytes) × (length out ≡ length out₀) × (put_all (pairsOf (drop i bytes)) (page out end) ≡ put_all (pairsOf bytes) (page out₀ at))
+invariant-loop out₀ at bytes end₀ i₀ out end i = (i ≤ length bytes) × (length out ≡ length out₀) × (put_all (pairs_of (drop i bytes)) (page out end) ≡ put_all (pairs_of bytes) (page out₀ at))
 
 abbrev decreases-loop : tie.decreases-loop
 decreases-loop out₀ at bytes end₀ i₀ out end i = length bytes - i
@@ -23,14 +23,14 @@ loop-again c =
     let start = at-loop.before.before.before in (
       omega arith,
       at-put-pair.put-pair.auto.0 ∙ at-loop.loop.invariant.1,
-      ap (put_all (pairsOf (drop (at-loop.loop.i + 1) start.args.bytes.now))) at-put-pair.put-pair.ensures ∙ sym (pairs-turn start.args.bytes.now at-loop.loop.i at-loop-test.loop-test.true _) ∙ at-loop.loop.invariant.2,
+      ap (put_all (pairs_of (drop (at-loop.loop.i + 1) start.args.bytes.now))) at-put-pair.put-pair.ensures ∙ sym (pairs_turn start.args.bytes.now at-loop.loop.i at-loop-test.loop-test.true _) ∙ at-loop.loop.invariant.2,
     )
 
 returns : tie.Need-returns invariant-loop decreases-loop
 returns c = sym (pairs_end c.before.before.before.before.args.bytes.now c.before.loop.i c.loop-test.false _) ∙ c.before.loop.invariant.2
 
-pub put-pairs-spec : {M : Type 1} → statement M
-put-pairs-spec =
+pub put_pairs_spec : {M : Type 1} → statement M
+put_pairs_spec =
     tie.close
     (tie.spec
     invariant-loop

@@ -19,8 +19,8 @@ returns-2 c =
     let start = at-before2.before.before in
     to_end start.args.line.now _ ∙ ap (λ (k : ℕ). drop (k + 1) start.args.line.now) at-before2.before2.ensures.0
 
-pub after-word-spec : {M : Type 1} → statement M
-after-word-spec =
+pub after_word_spec : {M : Type 1} → statement M
+after_word_spec =
     tie.close
     (tie.spec
     (λ c κs. search rules)

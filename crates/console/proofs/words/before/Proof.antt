@@ -4,13 +4,13 @@ use mathlib.Core.Path.{◌≡◌}
 use native.Mathlib.Omega.{arith}
 use lib.ListN.{length, drop}
 use borrow.Author.Rules.{rules}
-use Rattle.console.specs.Words.{lengthBefore}
-use Rattle.console.proofs.Turns.{before_on, before_here, before-end}
+use Rattle.console.specs.Words.{length_before}
+use Rattle.console.proofs.Turns.{before_on, before_here, before_end}
 use Rattle.console.proofs.words.before.Statement.{statement}
 use Rattle.console.proofs.words.before.Tie as tie
 
 abbrev invariant-loop : tie.invariant-loop
-invariant-loop bytes mark i₀ i = (i ≤ length bytes) × (i + lengthBefore mark (drop i bytes) ≡ lengthBefore mark bytes)
+invariant-loop bytes mark i₀ i = (i ≤ length bytes) × (i + length_before mark (drop i bytes) ≡ length_before mark bytes)
 
 abbrev decreases-loop : tie.decreases-loop
 decreases-loop bytes mark i₀ i = length bytes - i
@@ -30,10 +30,10 @@ loop-again c =
     omega (arith, before_on start.args.bytes.now at-loop.loop.i at-loop-test.loop-test.true start.args.mark c.if1.false)
 
 returns-2 : tie.Need-returns-2 invariant-loop decreases-loop
-returns-2 c = omega (arith, before-end c.before.before.args.bytes.now c.before.loop.i c.loop-test.false c.before.before.args.mark)
+returns-2 c = omega (arith, before_end c.before.before.args.bytes.now c.before.loop.i c.loop-test.false c.before.before.args.mark)
 
-pub before-spec : {M : Type 1} → statement M
-before-spec =
+pub before_spec : {M : Type 1} → statement M
+before_spec =
     tie.close
     (tie.spec
     invariant-loop

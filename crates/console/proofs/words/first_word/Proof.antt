@@ -10,8 +10,8 @@ use Rattle.console.proofs.words.first_word.Tie as tie
 returns : tie.Need-returns
 returns c = ap (λ (k : ℕ). take k c.before.before.before.args.line.now) c.before.before2.ensures.0
 
-pub first-word-spec : {M : Type 1} → statement M
-first-word-spec =
+pub first_word_spec : {M : Type 1} → statement M
+first_word_spec =
     tie.close
     (tie.spec
     (λ c κs. search rules)

@@ -4,13 +4,13 @@ use mathlib.Core.Path.{◌≡◌, refl, sym, ◌∙◌}
 use native.Mathlib.Omega.{arith}
 use lib.ListN.{length, drop}
 use borrow.Author.Rules.{rules}
-use Rattle.console.specs.Words.{sameBytes}
-use Rattle.console.proofs.Turns.{same-on, same-off, same_end, lengths_differ}
+use Rattle.console.specs.Words.{same_bytes}
+use Rattle.console.proofs.Turns.{same_on, same_off, same_end, lengths_differ}
 use Rattle.console.proofs.words.same.Statement.{statement}
 use Rattle.console.proofs.words.same.Tie as tie
 
 abbrev invariant-loop : tie.invariant-loop
-invariant-loop a b i₀ i = (i ≤ length a) × (sameBytes (drop i a) (drop i b) ≡ sameBytes a b)
+invariant-loop a b i₀ i = (i ≤ length a) × (same_bytes (drop i a) (drop i b) ≡ same_bytes a b)
 
 abbrev decreases-loop : tie.decreases-loop
 decreases-loop a b i₀ i = length a - i
@@ -23,14 +23,14 @@ returns-2 c =
     let at-loop-test = c.before.before.before in
     let at-loop = at-loop-test.before in
     let start = at-loop.before.before in
-    sym (same-off start.args.a.now start.args.b.now at-loop.loop.i at-loop-test.loop-test.true (omega arith) c.if2.true) ∙ at-loop.loop.invariant.1
+    sym (same_off start.args.a.now start.args.b.now at-loop.loop.i at-loop-test.loop-test.true (omega arith) c.if2.true) ∙ at-loop.loop.invariant.1
 
 loop-again : tie.Need-loop-preserved invariant-loop decreases-loop
 loop-again c =
     let at-loop-test = c.before.before.before in
     let at-loop = at-loop-test.before in
     let start = at-loop.before.before in
-    (omega arith, sym (same-on start.args.a.now start.args.b.now at-loop.loop.i at-loop-test.loop-test.true (omega arith) c.if2.false) ∙ at-loop.loop.invariant.1)
+    (omega arith, sym (same_on start.args.a.now start.args.b.now at-loop.loop.i at-loop-test.loop-test.true (omega arith) c.if2.false) ∙ at-loop.loop.invariant.1)
 
 returns-3 : tie.Need-returns-3 invariant-loop decreases-loop
 returns-3 c =

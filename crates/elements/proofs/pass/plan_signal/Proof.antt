@@ -4,7 +4,7 @@ use Prim.Native.Nat.{◌-◌, ◌≤◌}
 use native.Mathlib.Omega.{arith}
 use Rattle.theory.specs.Chosen.{Choice}
 use Rattle.elements.specs.Steps.{choice_of}
-use Rattle.elements.proofs.Signal.{After, after_none, after-all, after-low, counted, few, turns, after_turn}
+use Rattle.elements.proofs.Signal.{After, after_none, after_all, after_low, counted, few, turns, after_turn}
 use Rattle.elements.proofs.pass.plan_signal.Statement.{statement}
 use Rattle.elements.proofs.pass.plan_signal.Tie as tie
 
@@ -35,7 +35,7 @@ turn-requires c κs =
     let start = c.before.before.before.before.before.before.before.before.before.before.before in
     let at-loop = c.before.before.before.before.before.before.before.before.before.before in (
       turns start.args.t1 start.args.grid.now start.args.signal start.args.events.now start.args.count start.args.t6 start.requires at-loop.loop.n (omega arith) _ _ c.before.before.before.before.before.before.before.reads.ensures c.before.before.before.before.before.before.writes.ensures,
-      after-low start.args.t1 start.args.grid.now start.args.signal start.args.uses.now at-loop.loop.n (choice_of at-loop.loop.held at-loop.loop.own at-loop.loop.uses at-loop.loop.state) at-loop.loop.invariant.1,
+      after_low start.args.t1 start.args.grid.now start.args.signal start.args.uses.now at-loop.loop.n (choice_of at-loop.loop.held at-loop.loop.own at-loop.loop.uses at-loop.loop.state) at-loop.loop.invariant.1,
     )
 
 loop-again : tie.Need-loop-preserved invariant-loop decreases-loop
@@ -52,11 +52,11 @@ returns c =
     let start = c.before.before in
     let at-loop = c.before in
     let e : at-loop.loop.n ≡ start.args.count = omega arith in
-    let same = after-all start.args.t1 start.args.grid.now start.args.signal start.args.uses.now at-loop.loop.n (choice_of at-loop.loop.held at-loop.loop.own at-loop.loop.uses at-loop.loop.state) (e ∙ counted start.args.t1 start.args.grid.now start.args.signal start.args.events.now start.args.count start.args.t6 start.requires) at-loop.loop.invariant.1 in
+    let same = after_all start.args.t1 start.args.grid.now start.args.signal start.args.uses.now at-loop.loop.n (choice_of at-loop.loop.held at-loop.loop.own at-loop.loop.uses at-loop.loop.state) (e ∙ counted start.args.t1 start.args.grid.now start.args.signal start.args.events.now start.args.count start.args.t6 start.requires) at-loop.loop.invariant.1 in
     (ap (λ (x : Choice). x.count) same, ap (λ (x : Choice). x.uses) same)
 
-pub plan-signal-spec : {M : Type 1} → statement M
-plan-signal-spec =
+pub plan_signal_spec : {M : Type 1} → statement M
+plan_signal_spec =
     tie.close
     (tie.spec
     invariant-loop

@@ -2,7 +2,7 @@
 use mathlib.Core.Path.{◌∙◌}
 use native.Mathlib.Omega.{arith}
 use Rattle.elements.specs.Steps.{choice_of}
-use Rattle.elements.proofs.Passed.{reads-yes, reads-no, small}
+use Rattle.elements.proofs.Passed.{reads_yes, reads_no, small}
 use Rattle.elements.proofs.pass.reader_opens.Statement.{statement}
 use Rattle.elements.proofs.pass.reader_opens.Tie as tie
 
@@ -29,13 +29,13 @@ send-requires c κs =
 returns : tie.Need-returns
 returns c =
     let a = c.before.before.before.before.before.before.before.args in
-    λ held own. c.send.ensures held own ∙ reads-yes a.task a.access a.tick (choice_of held own a.uses.now a.state) c.before.before.before.before.before.before.if1.true
+    λ held own. c.send.ensures held own ∙ reads_yes a.task a.access a.tick (choice_of held own a.uses.now a.state) c.before.before.before.before.before.before.if1.true
 
 returns-2 : tie.Need-returns-2
-returns-2 c = let a = c.before.args in λ held own. reads-no a.task a.access a.tick (choice_of held own a.uses.now a.state) c.if1.false
+returns-2 c = let a = c.before.args in λ held own. reads_no a.task a.access a.tick (choice_of held own a.uses.now a.state) c.if1.false
 
-pub reader-opens-spec : {M : Type 1} → statement M
-reader-opens-spec =
+pub reader_opens_spec : {M : Type 1} → statement M
+reader_opens_spec =
     tie.close
     (tie.spec
     div-i

@@ -2,10 +2,10 @@
 use mathlib.Core.Path.{◌∙◌, ap}
 use native.Mathlib.Omega.{arith}
 use borrow.Author.Tests.{eq-eqb, ne_eqb}
-use Rattle.theory.specs.Sweep.{taskIn, tickIn}
+use Rattle.theory.specs.Sweep.{task_in, tick_in}
 use Rattle.elements.specs.Steps.{choice_of}
-use Rattle.elements.specs.Pass.{writesBy}
-use Rattle.elements.proofs.Passed.{turn-opens, turn-publishes, turn-ends}
+use Rattle.elements.specs.Pass.{writes_by}
+use Rattle.elements.proofs.Passed.{turn_opens, turn_publishes, turn_ends}
 use Rattle.elements.proofs.pass.turn.Statement.{statement}
 use Rattle.elements.proofs.pass.turn.Tie as tie
 
@@ -18,18 +18,18 @@ writer-opens-requires c κs = c.before.before.before.before.before.before.requir
 returns : tie.Need-returns
 returns c =
     let a = c.before.before.before.before.before.before.before.args in
-    c.writer-opens.ensures
-    ∙ ap (writesBy a.task a.access (taskIn a.event) (tickIn a.event)) (c.before.before.before.before.reader-opens.ensures a.held.now a.own.now)
-    ∙ turn-opens a.task a.access a.event (choice_of a.held.now a.own.now a.uses.now a.state) (eq-eqb _ _ c.before.before.before.before.before.before.if1.true)
+    c.writer_opens_lem.ensures
+    ∙ ap (writes_by a.task a.access (task_in a.event) (tick_in a.event)) (c.before.before.before.before.reader_opens_lem.ensures a.held.now a.own.now)
+    ∙ turn_opens a.task a.access a.event (choice_of a.held.now a.own.now a.uses.now a.state) (eq-eqb _ _ c.before.before.before.before.before.before.if1.true)
 
 returns-2 : tie.Need-returns-2
 returns-2 c =
     let a = c.before.before.before.before.before.args in
     c.publish.ensures a.uses.now
-    ∙ turn-publishes a.task a.access a.event (choice_of a.held.now a.own.now a.uses.now a.state) (ne_eqb _ _ c.before.before.before.before.if1.false) c.before.before.before.if2.true
+    ∙ turn_publishes a.task a.access a.event (choice_of a.held.now a.own.now a.uses.now a.state) (ne_eqb _ _ c.before.before.before.before.if1.false) c.before.before.before.if2.true
 
 returns-3 : tie.Need-returns-3
-returns-3 c = let a = c.before.before.args in turn-ends a.task a.access a.event (choice_of a.held.now a.own.now a.uses.now a.state) (ne_eqb _ _ c.before.if1.false) c.if2.false
+returns-3 c = let a = c.before.before.args in turn_ends a.task a.access a.event (choice_of a.held.now a.own.now a.uses.now a.state) (ne_eqb _ _ c.before.if1.false) c.if2.false
 
 pub turn_spec : {M : Type 1} → statement M
 turn_spec =

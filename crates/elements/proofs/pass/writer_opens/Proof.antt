@@ -2,7 +2,7 @@
 use mathlib.Core.Path.{◌∙◌}
 use native.Mathlib.Omega.{arith}
 use Rattle.elements.specs.Steps.{choice_of}
-use Rattle.elements.proofs.Passed.{writes-yes, writes-no, small}
+use Rattle.elements.proofs.Passed.{writes_yes, writes_no, small}
 use Rattle.elements.proofs.pass.writer_opens.Statement.{statement}
 use Rattle.elements.proofs.pass.writer_opens.Tie as tie
 
@@ -23,13 +23,13 @@ take-requires c κs =
 returns : tie.Need-returns
 returns c =
     let a = c.before.before.before.before.before.before.before.args in
-    c.take.ensures ∙ writes-yes a.task a.access a.k a.tick (choice_of a.held.now a.own.now a.uses.now a.state) c.before.before.before.before.before.before.if1.true
+    c.take.ensures ∙ writes_yes a.task a.access a.k a.tick (choice_of a.held.now a.own.now a.uses.now a.state) c.before.before.before.before.before.before.if1.true
 
 returns-2 : tie.Need-returns-2
-returns-2 c = let a = c.before.args in writes-no a.task a.access a.k a.tick (choice_of a.held.now a.own.now a.uses.now a.state) c.if1.false
+returns-2 c = let a = c.before.args in writes_no a.task a.access a.k a.tick (choice_of a.held.now a.own.now a.uses.now a.state) c.if1.false
 
-pub writer-opens-spec : {M : Type 1} → statement M
-writer-opens-spec =
+pub writer_opens_spec : {M : Type 1} → statement M
+writer_opens_spec =
     tie.close
     (tie.spec
     div-i

@@ -6,8 +6,8 @@ use Rattle.elements.proofs.steps.publish.Tie as tie
 returns : tie.Need-returns
 returns c = λ uses. rw c.before.larger.ensures
 
-pub publish-spec : {M : Type 1} → statement M
-publish-spec =
+pub publish_spec : {M : Type 1} → statement M
+publish_spec =
     tie.close
     (tie.spec
     (λ c κs. search rules)

@@ -6,8 +6,8 @@ use Rattle.elements.proofs.steps.send.Tie as tie
 returns : tie.Need-returns
 returns c = λ held own. rw c.larger.ensures
 
-pub send-spec : {M : Type 1} → statement M
-send-spec =
+pub send_spec : {M : Type 1} → statement M
+send_spec =
     tie.close
     (tie.spec
     (λ c. search rules)

@@ -37,8 +37,8 @@ returns c =
     let start = bound.before.before.before.before.before.before in
     ap₂ (λ a b. not (eqb a b)) (c.element-at.ensures ∙ read_is _ _ _ start.requires.0 _ _ start.requires.1) bound.bound-element.ensures
 
-pub sent-wrong-spec : {M : Type 1} → statement M
-sent-wrong-spec =
+pub sent_wrong_spec : {M : Type 1} → statement M
+sent_wrong_spec =
     tie.close
     (tie.spec
     (λ c. search rules)

@@ -4,15 +4,15 @@ use Prim.Native.Nat.{◌-◌, ◌≤◌}
 use native.Mathlib.Omega.{arith}
 use borrow.Author.Rules.{rules}
 use Rattle.form.specs.Form.{walked}
-use Rattle.form.proofs.Walks.{walked_none, walked-turn, walked-stopped}
+use Rattle.form.proofs.Walks.{walked_none, walked_turn, walked_stopped}
 use Rattle.faults.specs.declared.Fault.{Fault}
-use Rattle.faults.specs.Faults.{viewTable, viewSchedule, side_of, wrongOf, seek}
+use Rattle.faults.specs.Faults.{view_table, view_schedule, side_of, wrong_of, seek}
 use Rattle.faults.proofs.search.signal_fault.Statement.{statement}
 use Rattle.faults.proofs.search.signal_fault.Tie as tie
 
 abbrev invariant-loop : tie.invariant-loop
 invariant-loop view grid side schedule untils tasks k₀ k =
-    (k ≤ view.tasks.count) × (Fault.Nowhere ≡ walked (seek (viewTable view grid) (wrongOf (viewTable view grid) (viewSchedule view grid schedule) side)) (side_of (viewTable view grid) grid side k view.signal) Fault.Nowhere)
+    (k ≤ view.tasks.count) × (Fault.Nowhere ≡ walked (seek (view_table view grid) (wrong_of (view_table view grid) (view_schedule view grid schedule) side)) (side_of (view_table view grid) grid side k view.signal) Fault.Nowhere)
 
 abbrev decreases-loop : tie.decreases-loop
 decreases-loop view grid side schedule untils tasks k₀ k = view.tasks.count - k
@@ -35,14 +35,14 @@ unfolding side_of
 returns c =
     let at = c.before in
     let said = at.before.before in
-    walked-stopped _ _ _ _ _ _ (λ x. refl) said.before.before.if1.true
-    (walked-turn _ _ _ _ said.before.before.before.before.loop.invariant.1 (sym at.at.given.1 ∙ said.task-fault.ensures))
+    walked_stopped _ _ _ _ _ _ (λ x. refl) said.before.before.if1.true
+    (walked_turn _ _ _ _ said.before.before.before.before.loop.invariant.1 (sym at.at.given.1 ∙ said.task-fault.ensures))
 
 loop-again : tie.Need-loop-preserved invariant-loop decreases-loop
 unfolding side_of
 loop-again c =
     let said = c.before.before in
-    (omega (arith, said.before.before.if1.true), walked-turn _ _ _ _ said.before.before.before.before.loop.invariant.1 (sym c.enum_told.given.1 ∙ said.task-fault.ensures))
+    (omega (arith, said.before.before.if1.true), walked_turn _ _ _ _ said.before.before.before.before.loop.invariant.1 (sym c.enum_told.given.1 ∙ said.task-fault.ensures))
 
 returns-2 : tie.Need-returns-2 invariant-loop decreases-loop
 returns-2 c =
@@ -50,8 +50,8 @@ returns-2 c =
     let e : looped.loop.k ≡ looped.before.before.before.before.before.args.view.tasks.count = omega (arith, looped.loop.invariant.0, c.if1.false) in
     rw e at looped.loop.invariant.1
 
-pub signal-fault-spec : {M : Type 1} → statement M
-signal-fault-spec =
+pub signal_fault_spec : {M : Type 1} → statement M
+signal_fault_spec =
     tie.close
     (tie.spec
     invariant-loop

@@ -23,8 +23,8 @@ returns c = let start = c.before.before.before in omega (arith, first_on start.a
 returns-2 : tie.Need-returns-2
 returns-2 c = let start = c.before.before.before in omega (arith, first_on start.args.t1 start.args.task c.before.enum-told2.given.1)
 
-pub start-of-spec : {M : Type 1} → statement M
-start-of-spec =
+pub start_of_spec : {M : Type 1} → statement M
+start_of_spec =
     tie.close
     (tie.spec
     (λ c. search rules)

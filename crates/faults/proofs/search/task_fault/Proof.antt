@@ -3,19 +3,19 @@ use mathlib.Core.Path.{◌≡◌, refl, sym, ◌∙◌}
 use mathlib.Core.List.{[], ◌∷◌}
 use Prim.Native.Nat.{◌-◌, ◌≤◌}
 use native.Mathlib.Omega.{arith}
-use Rattle.form.specs.Records.{useOf, instanceParts}
+use Rattle.form.specs.Records.{use_of, instance_parts}
 use Rattle.form.specs.Form.{walked}
-use Rattle.form.proofs.Walks.{walked_none, walked-turn, walked-stopped}
+use Rattle.form.proofs.Walks.{walked_none, walked_turn, walked_stopped}
 use Rattle.faults.specs.declared.Fault.{Fault}
-use Rattle.faults.specs.Faults.{viewTable, viewSchedule, wrongOf, seek}
+use Rattle.faults.specs.Faults.{view_table, view_schedule, wrong_of, seek}
 use Rattle.faults.proofs.Viewed.{has_of, place_is}
-use Rattle.faults.proofs.Searched.{one-passed, one_found, all-walked}
+use Rattle.faults.proofs.Searched.{one_passed, one_found, all_walked}
 use Rattle.faults.proofs.search.task_fault.Statement.{statement}
 use Rattle.faults.proofs.search.task_fault.Tie as tie
 
 abbrev invariant-loop : tie.invariant-loop
 invariant-loop view grid untils side task schedule records places i₀ i =
-    (i ≤ records) × (Fault.Nowhere ≡ walked (seek (viewTable view grid) (wrongOf (viewTable view grid) (viewSchedule view grid schedule) side)) (instanceParts side view.signal task i) Fault.Nowhere)
+    (i ≤ records) × (Fault.Nowhere ≡ walked (seek (view_table view grid) (wrong_of (view_table view grid) (view_schedule view grid schedule) side)) (instance_parts side view.signal task i) Fault.Nowhere)
 
 abbrev decreases-loop : tie.decreases-loop
 decreases-loop view grid untils side task schedule records places i₀ i = records - i
@@ -39,7 +39,7 @@ start-of-requires c κs =
     let start = counted.before.before in
     let has = has_of start.args.view start.args.grid.now start.args.side _ _ start.requires.2 (omega (arith, counted.records-of.ensures)) looped.loop-test.true in
     let at = place_is _ _ _ start.requires.0 start.args.side _ _ has in
-    (omega (arith, start.requires.2, start.requires.0.fits.few-tasks), omega (arith, at.0), omega (arith, at.0, at.2))
+    (omega (arith, start.requires.2, start.requires.0.fits.few_tasks), omega (arith, at.0), omega (arith, at.0, at.2))
 
 returns : tie.Need-returns invariant-loop decreases-loop
 returns c =
@@ -49,9 +49,9 @@ returns c =
     let start = counted.before.before in
     let has = has_of start.args.view start.args.grid.now start.args.side _ _ start.requires.2 (omega (arith, counted.records-of.ensures)) looped.loop-test.true in
     let at = place_is _ _ _ start.requires.0 start.args.side _ _ has in
-    all-walked _ _ start.args.side start.args.view.signal start.args.task
-    (walked-stopped _ (λ i. useOf start.args.side start.args.view.signal start.args.task i ∷ []) _ _ _ (Fault.At c.start_of_lem.result) (λ x. refl) looped.loop-test.true
-    (walked-turn _ (λ i. useOf start.args.side start.args.view.signal start.args.task i ∷ []) _ _ looped.before.loop.invariant.1
+    all_walked _ _ start.args.side start.args.view.signal start.args.task
+    (walked_stopped _ (λ i. use_of start.args.side start.args.view.signal start.args.task i ∷ []) _ _ _ (Fault.At c.start_of_lem.result) (λ x. refl) looped.loop-test.true
+    (walked_turn _ (λ i. use_of start.args.side start.args.view.signal start.args.task i ∷ []) _ _ looped.before.loop.invariant.1
     (one_found _ _ _ (sym said.is-wrong.ensures ∙ c.before.if1.true) (omega (arith, c.start_of_lem.ensures, at.0)))))
     counted.records-of.ensures
 
@@ -59,17 +59,17 @@ loop-again : tie.Need-loop-preserved invariant-loop decreases-loop
 loop-again c =
     let said = c.before in
     let start = said.before.before.before.before.before.before in
-    (omega arith, walked-turn _ (λ i. useOf start.args.side start.args.view.signal start.args.task i ∷ []) _ _ said.before.before.loop.invariant.1 (one-passed _ _ _ (sym said.is-wrong.ensures ∙ c.if1.false)))
+    (omega arith, walked_turn _ (λ i. use_of start.args.side start.args.view.signal start.args.task i ∷ []) _ _ said.before.before.loop.invariant.1 (one_passed _ _ _ (sym said.is-wrong.ensures ∙ c.if1.false)))
 
 returns-2 : tie.Need-returns-2 invariant-loop decreases-loop
 returns-2 c =
     let counted = c.before.before.before in
     let start = counted.before.before in
     let e : c.before.loop.i ≡ counted.records-of.result = omega arith in
-    all-walked _ _ start.args.side start.args.view.signal start.args.task c.before.loop.invariant.1 (e ∙ counted.records-of.ensures)
+    all_walked _ _ start.args.side start.args.view.signal start.args.task c.before.loop.invariant.1 (e ∙ counted.records-of.ensures)
 
-pub task-fault-spec : {M : Type 1} → statement M
-task-fault-spec =
+pub task_fault_spec : {M : Type 1} → statement M
+task_fault_spec =
     tie.close
     (tie.spec
     invariant-loop

@@ -16,5 +16,5 @@ returns-3 : tie.Need-returns-3
 unfolding clashing
 returns-3 c = search ladder
 
-pub clashes-spec : {M : Type 1} → statement M
-clashes-spec = tie.close (tie.spec returns returns-2 returns-3)
+pub clashes_spec : {M : Type 1} → statement M
+clashes_spec = tie.close (tie.spec returns returns-2 returns-3)

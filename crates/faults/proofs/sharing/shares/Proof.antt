@@ -1,13 +1,13 @@
 -- `sharing::shares` meets its contract: the carried value first, then the earlier ones.
 use mathlib.Core.Path.{◌∙◌}
 use borrow.Author.Rules.{rules}
-use Rattle.faults.proofs.Clashing.{shares-carried, shares-earlier}
-use Rattle.faults.proofs.Numbered.{writers-asked, in_reach, value-is}
+use Rattle.faults.proofs.Clashing.{shares_carried, shares_earlier}
+use Rattle.faults.proofs.Numbered.{writers_asked, in_reach, value_is}
 use Rattle.faults.proofs.sharing.shares.Statement.{statement}
 use Rattle.faults.proofs.sharing.shares.Tie as tie
 
 writer-of-requires : tie.Need-writer-of-requires
-writer-of-requires c κs = let start = c.before in writers-asked _ _ _ start.requires.0 _ start.requires.2.0
+writer-of-requires c κs = let start = c.before in writers_asked _ _ _ start.requires.0 _ start.requires.2.0
 
 written-requires : tie.Need-written-requires
 written-requires c κs =
@@ -19,17 +19,17 @@ returns c =
     let said = c.before in
     let held = said.before.before in
     let start = held.before.before.before in
-    shares-carried _ _ _ start.requires.0 _ _ start.requires.2 (held.written.ensures ∙ value-is _ _ _ start.requires.0 _ held.before.writer_of.ensures start.args.untils.now start.requires.1 _ start.requires.2) start.args.untils.now start.requires.1 said.before.carried-value.ensures said.clashes.ensures c.if1.true
+    shares_carried _ _ _ start.requires.0 _ _ start.requires.2 (held.written.ensures ∙ value_is _ _ _ start.requires.0 _ held.before.writer_of.ensures start.args.untils.now start.requires.1 _ start.requires.2) start.args.untils.now start.requires.1 said.before.carried-value.ensures said.clashes.ensures c.if1.true
 
 returns-2 : tie.Need-returns-2
 returns-2 c =
     let said = c.before.before in
     let held = said.before.before in
     let start = held.before.before.before in
-    shares-earlier _ _ _ start.requires.0 _ _ start.requires.2 (held.written.ensures ∙ value-is _ _ _ start.requires.0 _ held.before.writer_of.ensures start.args.untils.now start.requires.1 _ start.requires.2) start.args.untils.now start.requires.1 said.before.carried-value.ensures said.clashes.ensures c.before.if1.false c.apart-from-earlier.ensures
+    shares_earlier _ _ _ start.requires.0 _ _ start.requires.2 (held.written.ensures ∙ value_is _ _ _ start.requires.0 _ held.before.writer_of.ensures start.args.untils.now start.requires.1 _ start.requires.2) start.args.untils.now start.requires.1 said.before.carried-value.ensures said.clashes.ensures c.before.if1.false c.apart-from-earlier.ensures
 
-pub shares-spec : {M : Type 1} → statement M
-shares-spec =
+pub shares_spec : {M : Type 1} → statement M
+shares_spec =
     tie.close
     (tie.spec
     writer-of-requires

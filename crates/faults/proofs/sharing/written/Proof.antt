@@ -1,15 +1,15 @@
 -- `sharing::written` meets its contract.
 use mathlib.Core.Path.{refl}
 use borrow.Author.Rules.{rules}
-use Rattle.faults.proofs.Viewed.{held-is}
+use Rattle.faults.proofs.Viewed.{held_is}
 use Rattle.faults.proofs.sharing.written.Statement.{statement}
 use Rattle.faults.proofs.sharing.written.Tie as tie
 
 returns : tie.Need-returns
-returns c = held-is _ c.before.before.before.before.element-at.ensures refl
+returns c = held_is _ c.before.before.before.before.element-at.ensures refl
 
-pub written-spec : {M : Type 1} → statement M
-written-spec =
+pub written_spec : {M : Type 1} → statement M
+written_spec =
     tie.close
     (tie.spec
     (λ c κs. search rules)

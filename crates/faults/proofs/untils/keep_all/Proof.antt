@@ -6,8 +6,8 @@ use native.Mathlib.Omega.{arith}
 use borrow.Author.Rules.{rules}
 use Rattle.rules.specs.Values.{carried}
 use Rattle.faults.specs.Faults.{number_of, KeptTo}
-use Rattle.faults.proofs.Viewed.{view-ready, until-of}
-use Rattle.faults.proofs.Numbered.{kept-none, kept_at}
+use Rattle.faults.proofs.Viewed.{view_ready, until_of_lem}
+use Rattle.faults.proofs.Numbered.{kept_none, kept_at}
 use Rattle.faults.proofs.untils.keep_all.Statement.{statement}
 use Rattle.faults.proofs.untils.keep_all.Tie as tie
 
@@ -21,12 +21,12 @@ loop-holds : tie.Need-loop-init invariant-loop decreases-loop
 loop-holds c =
     let start = c.before.before in
     let K = start.requires.0.1 in
-    (omega arith, kept-none start.args.view start.args.grid.now start.args.untils.now start.requires.1 (until-of _ _ _ K (carried _) K.signal c.until.ensures))
+    (omega arith, kept_none start.args.view start.args.grid.now start.args.untils.now start.requires.1 (until_of_lem _ _ _ K (carried _) K.signal c.until.ensures))
 
 until-requires : tie.Need-until-requires invariant-loop decreases-loop
 until-requires c κs =
     let K = c.before.requires.0.1 in
-    let R = view-ready _ _ _ K in
+    let R = view_ready _ _ _ K in
     (R.0, omega (arith, R.2, K.signal), R.1, omega arith, R.4)
 
 keep-task-requires : tie.Need-keep-task-requires invariant-loop decreases-loop
@@ -47,8 +47,8 @@ returns c =
     let e : looped.loop.k ≡ start.args.view.tasks.count = omega (arith, looped.loop.invariant.0, c.if1.false) in
     rw e at looped.loop.invariant.1
 
-pub keep-all-spec : {M : Type 1} → statement M
-keep-all-spec =
+pub keep_all_spec : {M : Type 1} → statement M
+keep_all_spec =
     tie.close
     (tie.spec
     invariant-loop

@@ -5,7 +5,7 @@ use borrow.Author.Rules.{rules}
 use Rattle.form.specs.declared.sides.Side.{Side}
 use Rattle.faults.specs.Faults.{number_of, KeptBelow}
 use Rattle.faults.proofs.Viewed.{has_of}
-use Rattle.faults.proofs.Numbered.{writers-asked, number_is, room, numbers_more, kept_more, kept_at}
+use Rattle.faults.proofs.Numbered.{writers_asked, number_is, room, numbers_more, kept_more, kept_at}
 use Rattle.faults.proofs.untils.keep_task.Statement.{statement}
 use Rattle.faults.proofs.untils.keep_task.Tie as tie
 
@@ -17,7 +17,7 @@ abbrev decreases-loop : tie.decreases-loop
 decreases-loop view grid task untils₀ first records i₀ untils i = records - i
 
 writer-of-requires : tie.Need-writer-of-requires invariant-loop decreases-loop
-writer-of-requires c κs = writers-asked _ _ _ c.requires.0.1 _ c.requires.1
+writer-of-requires c κs = writers_asked _ _ _ c.requires.0.1 _ c.requires.1
 
 records-of-requires : tie.Need-records-of-requires invariant-loop decreases-loop
 records-of-requires c κs = (c.before.requires.0, c.before.requires.1)
@@ -65,8 +65,8 @@ returns c =
     let start = counted.before.before in
     kept_at start.args.view start.args.grid.now looped.loop.untils (omega (arith, looped.loop.invariant.0, c.loop-test.false, counted.records-of.ensures, numbers_more start.args.view start.args.grid.now start.args.task)) looped.loop.invariant.1
 
-pub keep-task-spec : {M : Type 1} → statement M
-keep-task-spec =
+pub keep_task_spec : {M : Type 1} → statement M
+keep_task_spec =
     tie.close
     (tie.spec
     invariant-loop

@@ -1,14 +1,14 @@
 -- `forms::bf_stands` meets its contract: the tests follow the definition's order.
 use borrow.Author.Rules.{rules}
 use Rattle.fields.proofs.Whens.{ladder}
-use Rattle.form.specs.Form.{bfStands}
-use Rattle.form.proofs.Steps.{same-eqb}
+use Rattle.form.specs.Form.{bf_stands}
+use Rattle.form.proofs.Steps.{same_eqb}
 use Rattle.form.proofs.forms.bf_stands.Statement.{statement}
 use Rattle.form.proofs.forms.bf_stands.Tie as tie
 
-pub bf-stands-spec : {M : Type 1} → statement M
-unfolding bfStands
-bf-stands-spec =
+pub bf_stands_spec : {M : Type 1} → statement M
+unfolding bf_stands
+bf_stands_spec =
     tie.close
     (tie.spec
     (λ c. search rules)
@@ -21,4 +21,4 @@ bf-stands-spec =
     (λ c. search rules)
     (λ c. search rules)
     (λ c κs. search rules)
-    (λ c. search (ladder, same-eqb)))
+    (λ c. search (ladder, same_eqb)))

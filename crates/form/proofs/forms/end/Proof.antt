@@ -5,16 +5,16 @@ use Prim.Native.Nat.{◌+◌, ◌≤◌}
 use lib.ListN.{length}
 use Rattle.fields.proofs.Tested.{granted, room}
 use Rattle.fields.proofs.Whens.{ladder}
-use Rattle.form.specs.Form.{endStep}
+use Rattle.form.specs.Form.{end_step}
 use Rattle.form.proofs.forms.end.Statement.{statement}
 use Rattle.form.proofs.forms.end.Tie as tie
 
 whole : (c : tie.Else1) → c.before.before.before.args.place.at + 2 ≤ length c.before.before.before.args.bytes.now
 whole c = room _ _ _ (granted c.before.holds.ensures c.if1.false)
 
-pub end-spec : {M : Type 1} → statement M
-unfolding endStep
-end-spec =
+pub end_spec : {M : Type 1} → statement M
+unfolding end_step
+end_spec =
     tie.close
     (tie.spec
     (λ c κs. search rules)

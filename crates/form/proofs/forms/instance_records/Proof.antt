@@ -6,16 +6,16 @@ use native.Mathlib.Omega.{arith}
 use borrow.Author.Rules.{rules}
 use Rattle.form.specs.declared.sides.Side.{Side}
 use Rattle.form.specs.declared.forms.Walk.{Walk}
-use Rattle.form.specs.Records.{markOf, useOf, instanceParts}
+use Rattle.form.specs.Records.{mark_of, use_of, instance_parts}
 use Rattle.form.specs.Form.{walked, step}
-use Rattle.form.proofs.Walks.{walked_none, walked-turn, walked-stopped}
-use Rattle.form.proofs.Steps.{use-walked}
+use Rattle.form.proofs.Walks.{walked_none, walked_turn, walked_stopped}
+use Rattle.form.proofs.Steps.{use_walked}
 use Rattle.form.proofs.forms.instance_records.Statement.{statement}
 use Rattle.form.proofs.forms.instance_records.Tie as tie
 
 abbrev invariant-loop : tie.invariant-loop
 invariant-loop mark signal task records bytes place₀ i₀ place i =
-    (i ≤ records) × ((side : Side) → mark ≡ markOf side → Walk.Next place ≡ walked (step bytes) (instanceParts side signal task i) (Walk.Next place₀))
+    (i ≤ records) × ((side : Side) → mark ≡ mark_of side → Walk.Next place ≡ walked (step bytes) (instance_parts side signal task i) (Walk.Next place₀))
 
 abbrev decreases-loop : tie.decreases-loop
 decreases-loop mark signal task records bytes place₀ i₀ place i = records - i
@@ -26,21 +26,21 @@ loop-holds c = (omega arith, λ side e. walked_none _ _ _)
 loop-again : tie.Need-loop-preserved invariant-loop decreases-loop
 loop-again c =
     let said = c.before.before.before in
-    (omega arith, λ side e. walked-turn _ (λ i. useOf side _ _ i ∷ []) _ _ (said.before.before.loop.invariant.1 side e) (use-walked _ side _ _ _ _ e said.use-record.ensures c.before.next.given.1))
+    (omega arith, λ side e. walked_turn _ (λ i. use_of side _ _ i ∷ []) _ _ (said.before.before.loop.invariant.1 side e) (use_walked _ side _ _ _ _ e said.use-record.ensures c.before.next.given.1))
 
 returns : tie.Need-returns invariant-loop decreases-loop
 returns c =
     let said = c.before.before.before in
-    λ side e. walked-stopped _ (λ i. useOf side _ _ i ∷ []) _ _ _ _ (λ x. refl) said.before.loop-test.true
-    (walked-turn _ (λ i. useOf side _ _ i ∷ []) _ _ (said.before.before.loop.invariant.1 side e) (use-walked _ side _ _ _ _ e said.use-record.ensures c.before.answer.given.1))
+    λ side e. walked_stopped _ (λ i. use_of side _ _ i ∷ []) _ _ _ _ (λ x. refl) said.before.loop-test.true
+    (walked_turn _ (λ i. use_of side _ _ i ∷ []) _ _ (said.before.before.loop.invariant.1 side e) (use_walked _ side _ _ _ _ e said.use-record.ensures c.before.answer.given.1))
 
 returns-2 : tie.Need-returns-2 invariant-loop decreases-loop
 returns-2 c =
     let e : c.before.loop.i ≡ c.before.before.before.args.records = omega arith in
     λ side m. rw e at (c.before.loop.invariant.1 side m)
 
-pub instance-records-spec : {M : Type 1} → statement M
-instance-records-spec =
+pub instance_records_spec : {M : Type 1} → statement M
+instance_records_spec =
     tie.close
     (tie.spec
     invariant-loop

@@ -1,14 +1,14 @@
 -- `forms::instance_stands` meets its contract: the tests follow the definition's order.
 use borrow.Author.Rules.{rules}
 use Rattle.fields.proofs.Whens.{ladder}
-use Rattle.form.specs.Form.{instanceStands}
-use Rattle.form.proofs.Steps.{same-eqb}
+use Rattle.form.specs.Form.{instance_stands}
+use Rattle.form.proofs.Steps.{same_eqb}
 use Rattle.form.proofs.forms.instance_stands.Statement.{statement}
 use Rattle.form.proofs.forms.instance_stands.Tie as tie
 
-pub instance-stands-spec : {M : Type 1} → statement M
-unfolding instanceStands
-instance-stands-spec =
+pub instance_stands_spec : {M : Type 1} → statement M
+unfolding instance_stands
+instance_stands_spec =
     tie.close
     (tie.spec
     (λ c. search rules)
@@ -18,4 +18,4 @@ instance-stands-spec =
     (λ c. search rules)
     (λ c. search rules)
     (λ c κs. search rules)
-    (λ c. search (ladder, same-eqb)))
+    (λ c. search (ladder, same_eqb)))

@@ -5,7 +5,7 @@ use Prim.Native.Nat.{◌+◌, ◌≤◌}
 use lib.ListN.{length}
 use Rattle.fields.proofs.Tested.{granted, room}
 use Rattle.fields.proofs.Whens.{ladder}
-use Rattle.form.specs.Form.{signalStep}
+use Rattle.form.specs.Form.{signal_step}
 use Rattle.form.proofs.Steps.{summed}
 use Rattle.form.proofs.forms.signal_record.Statement.{statement}
 use Rattle.form.proofs.forms.signal_record.Tie as tie
@@ -13,9 +13,9 @@ use Rattle.form.proofs.forms.signal_record.Tie as tie
 whole : (c : tie.Else1) → c.before.before.before.args.from.at + 4 ≤ length c.before.before.before.args.bytes.now
 whole c = room _ _ _ (granted c.before.holds.ensures c.if1.false)
 
-pub signal-record-spec : {M : Type 1} → statement M
-unfolding signalStep
-signal-record-spec =
+pub signal_record_spec : {M : Type 1} → statement M
+unfolding signal_step
+signal_record_spec =
     tie.close
     (tie.spec
     (λ c κs. search rules)

@@ -5,16 +5,16 @@ use Prim.Native.Nat.{◌+◌, ◌≤◌}
 use lib.ListN.{length}
 use Rattle.fields.proofs.Tested.{granted, room}
 use Rattle.fields.proofs.Whens.{ladder}
-use Rattle.form.specs.Form.{useStep}
+use Rattle.form.specs.Form.{use_step}
 use Rattle.form.proofs.forms.use_record.Statement.{statement}
 use Rattle.form.proofs.forms.use_record.Tie as tie
 
 whole : (c : tie.Else1) → c.before.before.before.args.from.at + 7 ≤ length c.before.before.before.args.bytes.now
 whole c = room _ _ _ (granted c.before.holds.ensures c.if1.false)
 
-pub use-record-spec : {M : Type 1} → statement M
-unfolding useStep
-use-record-spec =
+pub use_record_spec : {M : Type 1} → statement M
+unfolding use_step
+use_record_spec =
     tie.close
     (tie.spec
     (λ c κs. search rules)

@@ -3,16 +3,16 @@ use borrow.Author.Rules.{rules}
 use mathlib.Core.Path.{ap₂}
 use Prim.Native.Nat.{◌+◌, ◌*◌}
 use native.Mathlib.Omega.{arith}
-use Rattle.form.specs.Records.{signalBytes}
+use Rattle.form.specs.Records.{signal_bytes}
 use Rattle.form.proofs.lengths.signal_length.Statement.{statement}
 use Rattle.form.proofs.lengths.signal_length.Tie as tie
 
 returns : tie.Need-returns
-unfolding signalBytes
+unfolding signal_bytes
 returns c = (ap₂ (λ w r. 4 + 7 * (w + r)) c.before.users-in-all.ensures.0 c.users-in-all2.ensures.0, omega arith)
 
-pub signal-length-spec : {M : Type 1} → statement M
-signal-length-spec =
+pub signal_length_spec : {M : Type 1} → statement M
+signal_length_spec =
     tie.close
     (tie.spec
     (λ c κs. search rules)

@@ -7,15 +7,15 @@ use native.Mathlib.Omega.{arith}
 use native.Mathlib.Nat.{div-le_self}
 use lib.ListN.{get_or, length, length-set}
 use Rattle.rules.specs.Reading.{task_of}
-use Rattle.rules.specs.Table.{mostTasks}
-use Rattle.windows.proofs.Windows.{period-pos}
+use Rattle.rules.specs.Table.{most_tasks}
+use Rattle.windows.proofs.Windows.{period_pos}
 use Rattle.form.proofs.Steps.{stored_more}
 use Rattle.form.proofs.sides.instances_of.Statement.{statement}
 use Rattle.form.proofs.sides.instances_of.Tie as tie
 
 abbrev invariant-loop : tie.invariant-loop
 invariant-loop hyper tasks instances₀ k₀ instances k =
-    (k ≤ tasks.count) × (length instances ≡ mostTasks) × ((j : ℕ) → j < k → get_or instances j 0 ≡ hyper / (task_of tasks j).period)
+    (k ≤ tasks.count) × (length instances ≡ most_tasks) × ((j : ℕ) → j < k → get_or instances j 0 ≡ hyper / (task_of tasks j).period)
 
 abbrev decreases-loop : tie.decreases-loop
 decreases-loop hyper tasks instances₀ k₀ instances k = tasks.count - k
@@ -24,7 +24,7 @@ loop-holds : tie.Need-loop-init invariant-loop decreases-loop
 loop-holds c = (search rules, refl, below_none _)
 
 div-instances : tie.Need-nonzero-div-instances invariant-loop decreases-loop
-div-instances c = omega (arith, period-pos _ (c.before.before.requires.1 _ c.loop-test.true))
+div-instances c = omega (arith, period_pos _ (c.before.before.requires.1 _ c.loop-test.true))
 
 cast-instances : tie.Need-overflow-cast-instances invariant-loop decreases-loop
 cast-instances c = record { fits = omega (arith, div-le_self c.before.before.args.hyper (task_of c.before.before.args.t1 c.before.loop.k).period) }
@@ -39,8 +39,8 @@ loop-again c =
 returns : tie.Need-returns invariant-loop decreases-loop
 returns c k l = c.before.loop.invariant.2 k (omega arith)
 
-pub instances-of-spec : {M : Type 1} → statement M
-instances-of-spec =
+pub instances_of_spec : {M : Type 1} → statement M
+instances_of_spec =
     tie.close
     (tie.spec
     invariant-loop

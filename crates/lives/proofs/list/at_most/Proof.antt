@@ -9,5 +9,5 @@ returns c = omega arith
 returns-2 : tie.Need-returns-2
 returns-2 c = omega arith
 
-pub at-most-spec : {M : Type 1} → statement M
-at-most-spec = tie.close (tie.spec returns returns-2)
+pub at_most_spec : {M : Type 1} → statement M
+at_most_spec = tie.close (tie.spec returns returns-2)

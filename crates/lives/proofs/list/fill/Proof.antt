@@ -46,14 +46,14 @@ use denote.Triple.Clauses.{ensured, lasts}
 use denote.Exit.{yes}
 use Rattle.lives.specs.declared.LiveValue.{LiveValue}
 use Rattle.lives.specs.declared.Lives.{Lives}
-use Rattle.rules.specs.Table.{mostValues}
-use Rattle.lives.specs.Values.{recordWords, recordIn, filledFrom, value_at, filled}
+use Rattle.rules.specs.Table.{most_values}
+use Rattle.lives.specs.Values.{record_words, record_in, filled_from, value_at, filled}
 use Rattle.lives.specs.contracts.Lives as P
 use Rattle.lives.proofs.Lives.TheLaws as P'
-use Rattle.lives.proofs.Lending.{arrayTy, shares_array, shared_back}
-use Rattle.lives.proofs.Packing.{filled-same}
+use Rattle.lives.proofs.Lending.{array_ty, shares_array, shared_back}
+use Rattle.lives.proofs.Packing.{filled_same}
 use Rattle.lives.proofs.Rows.{R}
-use Rattle.lives.proofs.While.{big-lit}
+use Rattle.lives.proofs.While.{big_lit}
 use Rattle.lives.specs.contracts.words.packed as packing
 use Rattle.lives.proofs.words.packed.Symbol as packing-def
 use Rattle.lives.proofs.words.packed.Symbol.{name as #lives·packed}
@@ -87,7 +87,7 @@ module _ {M : Type 1} {𝓤 : Ura M} (𝓛 : Logic 𝓤) (mem : Memory → SProp
 
 -- The machine value of the values is m, which is left a variable: written out, antt would compute through its 513 records
 module _ {M : Type 1} {𝓤 : Ura M} (𝓛 : Logic 𝓤) (mem : Memory → SProp 𝓤) (run : Routine → Fun 𝓤) (κ : Lft) (q : Share) (b o : ℕ) (γ : GName) (ys : List LiveValue) (p : Lives) (n : ℕ)
-    (m : Val) (room : Room R (length ys)) (p-is : Is P.the_row p (m ∷ [])) (n-fits : n < 2 ^ 64) (enough : (n ≤ length ys) × (n ≤ mostValues)) where
+    (m : Val) (room : Room R (length ys)) (p-is : Is P.the_row p (m ∷ [])) (n-fits : n < 2 ^ 64) (enough : (n ≤ length ys) × (n ≤ most_values)) where
   open 𝓛 use {H}
 
   abbrev list : MutBor (List LiveValue)
@@ -110,7 +110,7 @@ module _ {M : Type 1} {𝓤 : Ura M} (𝓛 : Logic 𝓤) (mem : Memory → SProp
 
   -- ---- the call of `packed`
   abbrev Packs : List ℕ → Type 0
-  Packs ws = (length ws ≡ mostValues * recordWords) × ((k : ℕ) → k < mostValues → recordIn ws k ≡ value_at p k)
+  Packs ws = (length ws ≡ most_values * record_words) × ((k : ℕ) → k < most_values → record_in ws k ≡ value_at p k)
 
   abbrev to-packed : (Packing 𝓛 mem run).Ghost
   to-packed = ((tt, tt, tt, (p, tt), (m ∷ [], tt)), tt)
@@ -178,7 +178,7 @@ module _ {M : Type 1} {𝓤 : Ura M} (𝓛 : Logic 𝓤) (mem : Memory → SProp
         assigns ! (addr ! (from ! (fld ! refl (hop ! (look_in ! 18 (sub ! 0 refl (whole !))) (stop !))))) (from ! (stop !)) (init ! 6 refl (tt, tt)) $
         assigns ! (agg ! (and_then ! (load ! (from ! (stop !)) (look ! 6 refl)) (and_then ! (load ! (from ! (fld ! refl (stop !))) (look_in ! 18 (sub ! 1 refl (whole !)))) (no_more !)))) (from ! (stop !)) (init ! 4 refl (tt, (tt, (record { fits = room.0 }, tt)))) $
         assigns ! (addr ! (from ! (stop !))) (from ! (stop !)) (init ! 2 refl (tt, tt)) $
-        assigns ! (agg ! (and_then ! (load ! (from ! (stop !)) (look ! 2 refl)) (and_then ! (big-lit ! (record { fits = lit< tt })) (no_more !)))) (from ! (stop !)) (init ! 0 refl (tt, (tt, (record { fits = lit< tt }, tt)))) $
+        assigns ! (agg ! (and_then ! (load ! (from ! (stop !)) (look ! 2 refl)) (and_then ! (big_lit ! (record { fits = lit< tt })) (no_more !)))) (from ! (stop !)) (init ! 0 refl (tt, (tt, (record { fits = lit< tt }, tt)))) $
         -- the array is lent as a slice, for a lifetime ν of the call
         move ! (23 ∷ []) $ fsplit ! $ move ! (1 ∷ []) $ drop ! $ lft_new ! tt (λ ν. move ! (14 ∷ []) $
         use1 𝓛 (later (some (λ (δ : GName). ‵ ((ShrSlice (named 1) (ν ∷ []) u32).own_val (numbers l₄ δ ws) (sw l₄ ∷ [])) ⊛ ‵ (flent (ν ∷ []) ((arr_parts (shares u32) many).part full_share ws l₄ 0)))))
@@ -191,22 +191,22 @@ module _ {M : Type 1} {𝓤 : Ura M} (𝓛 : Logic 𝓤) (mem : Memory → SProp
         -- [what `fill_from` asks; the lender's part; _10; …; _9; …; _8; …; _7; …; room for _6; …; _5; …; that _4 dies; _3; …; _2; …; _1; …; room for _0; …]
         calls_at ! fm (Filling 𝓛 mem run) known (to l₄ ν δ ws) (and_then ! (load ! (from ! (stop !)) (look ! 6 refl)) (and_then ! (load ! (from ! (stop !)) (look ! 2 refl)) (and_then ! (load ! (from ! (stop !)) (look ! 15 refl)) (no_more !)))) (λ y.
         use1 𝓛 (later (some (λ (t : Unit {0}). ((‵ (flft κ q) ⊛ ‵ (flft (ν ∷ []) full_share) ⊛ ‵ ftrue) ⊛ ‵ (unit.own_val t (y ∷ []))) ⊛ raw (ensured 𝓛 filling.ended (filling.clauses 𝓛 mem run) (κs ν) (args l₄ δ ws) tt t)))) (id⊢ 𝓤 _) $ await ! tt $ pick ! (λ t.
-        split ! $ move ! (1 ∷ []) $ use1 𝓛 (some (λ (zs : List LiveValue × (Unit {0} × (Unit {0} × Unit {0}))). ‵ (lasts filling.ended (κs ν) (args l₄ δ ws) zs) ⊛ raw (fact 𝓤 (zs.0 ≡ filledFrom ws n ys)))) (id⊢ 𝓤 _) $ pick ! (λ zs.
-        split ! $ move ! (1 ∷ []) $ heard ! (zs.0 ≡ filledFrom ws n ys) (λ e₂. fsplit ! $ fsplit ! $ move ! (1 ∷ []) $ feq_l ! (λ l.
+        split ! $ move ! (1 ∷ []) $ use1 𝓛 (some (λ (zs : List LiveValue × (Unit {0} × (Unit {0} × Unit {0}))). ‵ (lasts filling.ended (κs ν) (args l₄ δ ws) zs) ⊛ raw (fact 𝓤 (zs.0 ≡ filled_from ws n ys)))) (id⊢ 𝓤 _) $ pick ! (λ zs.
+        split ! $ move ! (1 ∷ []) $ heard ! (zs.0 ≡ filled_from ws n ys) (λ e₂. fsplit ! $ fsplit ! $ move ! (1 ∷ []) $ feq_l ! (λ l.
         move ! (2 ∷ []) $ split ! $ move ! (1 ∷ []) $ peeks ! unit (Is unit) (shows 𝓛 unit) t (y ∷ []) (λ is₂.
         -- [the result; the tokens; the last list; …; the lender's part; _10; …]
         land ! (from ! (stop !)) (init ! 13 refl ((Nothing-Lawful 𝓛).typed t _ is₂).0) $
         -- the lifetime is ended, and the array comes back
         move ! (1 ∷ []) $ split ! $ move ! (1 ∷ []) $ split ! $ lft_end ! tt $ move ! (0 ∷ 6 ∷ []) $
-        use2 𝓛 (later (some (λ (v : Val). given (Is Numbers ws (v ∷ [])) (‵ (fat full_share (arrayTy u32 many) l₄ 0 v))))) (shared_back u32 𝓛 (uint_Makes 𝓛 w32) many l₄ (ν ∷ []) ws) $ await ! tt $ pick ! (λ v. learn ! (λ is_a.
+        use2 𝓛 (later (some (λ (v : Val). given (Is Numbers ws (v ∷ [])) (‵ (fat full_share (array_ty u32 many) l₄ 0 v))))) (shared_back u32 𝓛 (uint_Makes 𝓛 w32) many l₄ (ν ∷ []) ws) $ await ! tt $ pick ! (λ v. learn ! (λ is_a.
         -- [_4; true; the token; the result; the last list; …; _10; …; _9; …; _8; …; _7; …; _6; …; _5; …; that _4 dies; _3; …; _2; …; _1; …; room for _0; …]
         assigns ! (of_opd ! (unit_lit !)) (from ! (stop !)) (init ! 25 refl (tt, tt)) $
         returns ! (look ! 25 refl) $ forget ! 0 refl $ forget ! 6 refl $ forget ! 8 refl $ forget ! 10 refl $ forget ! 12 refl $ forget ! 14 refl $ forget ! 16 refl $ forget ! 19 refl $ forget ! 21 refl $ forget ! 23 refl $ forget ! 25 refl $
         move ! (25 ∷ 26 ∷ []) $ free1 ! $ move ! (23 ∷ 24 ∷ []) $ free1 ! $ move ! (21 ∷ 22 ∷ []) $ free1 ! $ move ! (19 ∷ 20 ∷ []) $ free1 ! $ move ! (0 ∷ 18 ∷ []) $ free1 ! $ move ! (15 ∷ 16 ∷ []) $ free1 ! $
         move ! (13 ∷ 14 ∷ []) $ free1 ! $ move ! (11 ∷ 12 ∷ []) $ free1 ! $ move ! (9 ∷ 10 ∷ []) $ free1 ! $ move ! (7 ∷ 8 ∷ []) $ free1 ! $ move ! (5 ∷ 6 ∷ []) $ free1 ! $ free0 ! $
-        keep ! (1 ∷ 3 ∷ []) $ by ! (exits zs.0 (e₂ ∙ filled-same p ws n ys enough.1 e.1) l))))))))))))))))))))))))))
+        keep ! (1 ∷ 3 ∷ []) $ by ! (exits zs.0 (e₂ ∙ filled_same p ws n ys enough.1 e.1) l))))))))))))))))))))))))))
       where
-        array_typed : (ws : List ℕ) (w : Val) → Is Numbers ws (w ∷ []) → Holds (has_ty (arrayTy u32 many) w) × WT w
+        array_typed : (ws : List ℕ) (w : Val) → Is Numbers ws (w ∷ []) → Holds (has_ty (array_ty u32 many) w) × WT w
         array_typed ws w is = ((Array-Lawful 𝓛 u32 (uint_Lawful 𝓛 w32) many).typed ws (w ∷ []) is).0
 
 module _ {M : Type 1} {𝓤 : Ura M} (𝓛 : Logic 𝓤) (mem : Memory → SProp 𝓤) (run : Routine → Fun 𝓤) where
@@ -215,7 +215,7 @@ module _ {M : Type 1} {𝓤 : Ura M} (𝓛 : Logic 𝓤) (mem : Memory → SProp
   fill_walks : (C : Calls 𝓤 H) (Λ : Loops 𝓤 H) → FmC 𝓤 H 𝓛.laws C → Triple 𝓤 (C #lives·packed) (Packing 𝓛 mem run) → Triple 𝓤 (C #lives·fill-from) (Filling 𝓛 mem run) → Walks 𝓛 fill'.ended stayed (WpFn 𝓤 H C Λ code.function) (fill'.clauses 𝓛 mem run)
   fill_walks C Λ fm known-packed known = walked 𝓛 fill'.ended stayed (fill'.clauses 𝓛 mem run) (WpFn 𝓤 H C Λ code.function)
       (λ κs. (mut_slice_vals, (LL.vals P.the_type P'.the_laws, (uint_vals w64, tt)))) (λ κs. (mut_slice_Tells (named 0) κs.0 R, (LL.tells P.the_type P'.the_laws, (uint_Tells w64, tt))))
-      (λ κs qs bounds a g are. needs 𝓤 ((a.1.1.0 ≤ length a.0.now) × (a.1.1.0 ≤ mostValues)) _ (λ enough.
+      (λ κs qs bounds a g are. needs 𝓤 ((a.1.1.0 ≤ length a.0.now) × (a.1.1.0 ≤ most_values)) _ (λ enough.
       walk 𝓛 mem run κs.0 qs.0 a.0.ref_ptr.0 a.0.ref_ptr.1 a.0.ghost_name a.0.now a.1.0 a.1.1.0 (LL.val P.the_type P'.the_laws a.1.0) are.0.0.1 are.1.0 are.1.1.0.1 enough C Λ fm known-packed known))
 
 fill_meets : {M : Type 1} {𝓤 : Ura M} (𝓛 : Logic 𝓤) (mem : Memory → SProp 𝓤) (run : Routine → Fun 𝓤) (𝓣 : Tables 𝓤 𝓛.H) → Triple 𝓤 (𝓣.C #lives·packed) (Packing 𝓛 mem run) → Triple 𝓤 (𝓣.C #lives·fill-from) (Filling 𝓛 mem run)

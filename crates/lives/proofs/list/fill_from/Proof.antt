@@ -52,12 +52,12 @@ use denote.Triple.Walked.{says, needs, Stays, stay_none, stay_none_slice, stay_s
 use denote.Triple.Clauses.{ensured, lasts}
 use denote.Exit.{yes}
 use Rattle.lives.specs.declared.LiveValue.{LiveValue}
-use Rattle.lives.specs.Values.{recordIn, filledFrom}
+use Rattle.lives.specs.Values.{record_in, filled_from}
 use Rattle.lives.specs.contracts.LiveValue as T
 use Rattle.lives.proofs.LiveValue.TheLaws as T'
-use Rattle.lives.proofs.Front.{length_front, front-suc}
-use Rattle.lives.proofs.Rows.{bytes, R, vals, tells, place-fits}
-use Rattle.lives.proofs.While.{envOf, while}
+use Rattle.lives.proofs.Front.{length_front, front_suc}
+use Rattle.lives.proofs.Rows.{bytes, R, vals, tells, place_fits}
+use Rattle.lives.proofs.While.{env_of, while}
 use Rattle.lives.specs.contracts.words.record_in as value
 use Rattle.lives.proofs.words.record_in.Symbol as value-def
 use Rattle.lives.proofs.words.record_in.Symbol.{name as #lives·record-in}
@@ -112,7 +112,7 @@ module _ {M : Type 1} {𝓤 : Ura M} (𝓛 : Logic 𝓤) (mem : Memory → SProp
   abbrev OwnX : Fml
   OwnX = (ShrSlice (named 1) κ' u32).own_val x (sx ∷ [])
 
-  exits : (zs : List LiveValue) → zs ≡ filledFrom xs n ys → length zs ≡ length ys
+  exits : (zs : List LiveValue) → zs ≡ filled_from xs n ys → length zs ≡ length ys
       → ent 𝓤 (⋆ 𝓛 (‵ (fobs γ ((coded_holeys R).code (heres R zs))) ∷ ‵ (fbor κ (Held R (length zs) b o γ)) ∷ ‵ (flft κ q) ∷ ‵ OwnX ∷ ‵ (flft κ' q') ∷ [])) (Post vunit)
   exits zs e len =
       qed 𝓛 (‵ (fobs γ ((coded_holeys R).code (heres R zs))) ∷ ‵ (fbor κ (Held R (length zs) b o γ)) ∷ ‵ (flft κ q) ∷ ‵ OwnX ∷ ‵ (flft κ' q') ∷ []) ∵
@@ -137,8 +137,8 @@ module _ {M : Type 1} {𝓤 : Ura M} (𝓛 : Logic 𝓤) (mem : Memory → SProp
       nothing ! $ owned ! usize (Is usize) (uint_Makes 𝓛 w64) k _ (refl, fits) $ fjoin ! $ move ! (1 ∷ 0 ∷ []) $ fjoin ! $ nothing ! $ move ! (3 ∷ 0 ∷ []) $ join ! $ move ! (0 ∷ 1 ∷ []) $
       use2 𝓛 (raw ((RecordIn 𝓛 mem run).pre (to k))) (qed 𝓛 ((‵ (flft κ' q') ⊛ ‵ ftrue) ∷ ‵ (owns (ShrSlice (named 0) κ' u32 ∷ usize ∷ []) (x, (k, tt)) (passed k)) ∷ []) ∵ says ! inside $ frame ! $ done !) $ frame ! $ done !
 
-  said : (k : ℕ) (r : LiveValue) → ent 𝓤 (ensured 𝓛 value.ended (value.clauses 𝓛 mem run) (κ', tt) (x, (k, tt)) tt r) (fact 𝓤 (r ≡ recordIn xs k))
-  said k r = ex_e 𝓤 _ (λ ws. snd∗ 𝓤 (sem 𝓛 (lasts value.ended (κ', tt) (x, (k, tt)) ws)) (fact 𝓤 (r ≡ recordIn xs k)))
+  said : (k : ℕ) (r : LiveValue) → ent 𝓤 (ensured 𝓛 value.ended (value.clauses 𝓛 mem run) (κ', tt) (x, (k, tt)) tt r) (fact 𝓤 (r ≡ record_in xs k))
+  said k r = ex_e 𝓤 _ (λ ws. snd∗ 𝓤 (sem 𝓛 (lasts value.ended (κ', tt) (x, (k, tt)) ws)) (fact 𝓤 (r ≡ record_in xs k)))
 
   -- ---- the loop
   abbrev Upto : Type 0
@@ -150,8 +150,8 @@ module _ {M : Type 1} {𝓤 : Ura M} (𝓛 : Logic 𝓤) (mem : Memory → SProp
   Nearer-wf : WellFounded Nearer
   Nearer-wf = InvImage.wf (λ (k : Upto). n - k.0) lt-wf_rel.wf
 
-  same_length : (k : Upto) → length (filledFrom xs k.0 ys) ≡ length ys
-  same_length k = length_front (recordIn xs) k.0 ys (le_trans k.1 enough.0)
+  same_length : (k : Upto) → length (filled_from xs k.0 ys) ≡ length ys
+  same_length k = length_front (record_in xs) k.0 ys (le_trans k.1 enough.0)
 
   module _ (𝓣 : Tables 𝓤 H) (known : Triple 𝓤 (𝓣.C #lives·record-in) (RecordIn 𝓛 mem run)) (l₀ l₁ l₂ l₃ l₄ l₅ l₆ l₇ l₈ : ℕ) where
     abbrev word : Ty
@@ -164,11 +164,11 @@ module _ {M : Type 1} {𝓤 : Ura M} (𝓛 : Logic 𝓤) (mem : Memory → SProp
     shrTy = slice_ty (ty_ref (named 1) imm (ty_int w32))
 
     abbrev En : Env 𝓤 H
-    En = envOf 𝓤 H (code.function).locals (l₀ ∷ l₁ ∷ l₂ ∷ l₃ ∷ l₄ ∷ l₅ ∷ l₆ ∷ l₇ ∷ l₈ ∷ [])
+    En = env_of 𝓤 H (code.function).locals (l₀ ∷ l₁ ∷ l₂ ∷ l₃ ∷ l₄ ∷ l₅ ∷ l₆ ∷ l₇ ∷ l₈ ∷ [])
 
     -- k records are filled: the row; the open borrow; obs; auth; what x owns; its token; then the locals, the last first
     abbrev At : Upto → List (Item 𝓤)
-    At k = ‵ (row R full_share (filledFrom xs k.0 ys) b o) ∷ ‵ (fobor κ q (Held R (length ys) b o γ)) ∷ ‵ (fobs γ ((coded_holeys R).code (heres R ys))) ∷ ‵ (fauth γ ((coded_holeys R).code (heres R ys))) ∷ ‵ OwnX ∷ ‵ (flft κ' q')
+    At k = ‵ (row R full_share (filled_from xs k.0 ys) b o) ∷ ‵ (fobor κ q (Held R (length ys) b o γ)) ∷ ‵ (fobs γ ((coded_holeys R).code (heres R ys))) ∷ ‵ (fauth γ ((coded_holeys R).code (heres R ys))) ∷ ‵ OwnX ∷ ‵ (flft κ' q')
         ∷ ‵ (froom ty_ptr l₈ 0) ∷ ‵ (fdies ty_ptr l₈) ∷ ‵ (froom word l₇ 0) ∷ ‵ (fdies word l₇) ∷ ‵ (froom T'.mir l₆ 0) ∷ ‵ (fdies T'.mir l₆) ∷ ‵ (froom ty_bool l₅ 0) ∷ ‵ (fdies ty_bool l₅)
         ∷ ‵ (fat full_share word l₄ 0 (vint w64 k.0)) ∷ ‵ (fdies word l₄) ∷ ‵ (fat full_share word l₃ 0 (vint w64 n)) ∷ ‵ (fdies word l₃) ∷ ‵ (fat full_share shrTy l₂ 0 sx) ∷ ‵ (fdies shrTy l₂)
         ∷ ‵ (fat full_share mutTy l₁ 0 s) ∷ ‵ (fdies mutTy l₁) ∷ ‵ (froom ty_unit l₀ 0) ∷ ‵ (fdies ty_unit l₀) ∷ []
@@ -186,30 +186,30 @@ module _ {M : Type 1} {𝓤 : Ura M} (𝓛 : Logic 𝓤) (mem : Memory → SProp
         -- [what `record_in` asks; what x owns; the row; the open borrow; obs; auth; room for _8; …]
         calls_at ! (fm_of 𝓤 H 𝓛.laws 𝓣) (RecordIn 𝓛 mem run) known (to k.0) (and_then ! (load ! (from ! (stop !)) (look ! 18 refl)) (and_then ! (load ! (from ! (stop !)) (look ! 14 refl)) (no_more !))) (λ u.
         use1 𝓛 (later (some (λ (r : LiveValue). ((‵ (flft κ' q') ⊛ ‵ ftrue) ⊛ ‵ (R.own r (u ∷ []))) ⊛ raw (ensured 𝓛 value.ended (value.clauses 𝓛 mem run) (κ', tt) (x, (k.0, tt)) tt r)))) (id⊢ 𝓤 _) $ await ! tt $ pick ! (λ r.
-        split ! $ move ! (1 ∷ []) $ use1 𝓛 (raw (fact 𝓤 (r ≡ recordIn xs k.0))) (said k.0 r) $ heard ! (r ≡ recordIn xs k.0) (λ e. split ! $ move ! (1 ∷ []) $
+        split ! $ move ! (1 ∷ []) $ use1 𝓛 (raw (fact 𝓤 (r ≡ record_in xs k.0))) (said k.0 r) $ heard ! (r ≡ record_in xs k.0) (λ e. split ! $ move ! (1 ∷ []) $
         -- [the record; the token; what x owns; the row; the open borrow; obs; auth; room for _8; …]
         peeks ! R (Is R) (shows 𝓛 R) r (u ∷ []) (λ is.
         land ! (from ! (stop !)) (init ! 11 refl ((LL.lawful T.the_type T'.the_laws 𝓛).typed r _ is).0) $
         assigns ! (bin ! (load ! (from ! (stop !)) (look ! 15 refl)) (lit ! tt) (record { fits = within-fits less })) (from ! (stop !)) (init ! 9 refl (tt, record { fits = within-fits less })) $
         assigns ! (bin ! (load ! (from ! (fld ! refl (stop !))) (look_in ! 21 (sub ! 0 refl (whole !)))) (load ! (from ! (stop !)) (look ! 9 refl)) tt) (from ! (stop !)) (init ! 7 refl (tt, tt)) $
         rewrite ! 7 (λ (p : ℕ). ‵ (fat full_share ty_ptr l₈ 0 (vptr b p))) (sym (place_is bytes o k.0)) refl $ move ! (3 ∷ []) $
-        elem_out ! R (Is R) (shows 𝓛 R) vals tells full_share (filledFrom xs k.0 ys) k.0 r b o (within-now less) (λ _.
+        elem_out ! R (Is R) (shows 𝓛 R) vals tells full_share (filled_from xs k.0 ys) k.0 r b o (within-now less) (λ _.
         -- [list[k]; what it owns; the others; the record; the token; what x owns; the open borrow; obs; auth; _8; …; _7; …; _6; …]
         assigns ! (of_opd ! (load ! (from ! (stop !)) (look ! 13 refl))) (from ! (hop ! (look ! 9 refl) (stop !))) (store_raw ! 0 refl ((LL.lawful T.the_type T'.the_laws 𝓛).typed r _ is).0) $
-        move ! (1 ∷ []) $ drop ! $ move ! (0 ∷ 2 ∷ 1 ∷ []) $ elem_put ! R full_share (filledFrom xs k.0 ys) k.0 r (u ∷ []) b o (within-now less) $
-        rewrite ! 0 (λ (zs : List LiveValue). ‵ (row R full_share zs b o)) (ap (set (filledFrom xs k.0 ys) k.0) e ∙ front-suc (recordIn xs) k.0 ys (within less)) refl $
+        move ! (1 ∷ []) $ drop ! $ move ! (0 ∷ 2 ∷ 1 ∷ []) $ elem_put ! R full_share (filled_from xs k.0 ys) k.0 r (u ∷ []) b o (within-now less) $
+        rewrite ! 0 (λ (zs : List LiveValue). ‵ (row R full_share zs b o)) (ap (set (filled_from xs k.0 ys) k.0) e ∙ front_suc (record_in xs) k.0 ys (within less)) refl $
         -- [the row; the token; what x owns; the open borrow; obs; auth; _8; …; _7; …; _6; …; _5; …; _4; …]
         assigns_last ! (bin ! (load ! (from ! (stop !)) (look ! 14 refl)) (lit ! tt) (record { fits = fits (next less) })) (from ! (stop !)) (store ! 14 refl (tt, record { fits = fits (next less) })) $
         forget ! 6 refl $ forget ! 8 refl $ forget ! 10 refl $ forget ! 12 refl $ move ! (1 ∷ []) $ split ! $ move ! (2 ∷ 4 ∷ 5 ∷ 6 ∷ 3 ∷ 0 ∷ []) $ move ! (6 ∷ []) $ drop ! $
         again ! Nearer At k (next less) (add-one-dec n k.0 (ltb→lt k.0 n less))))))))
         (λ over. exec ! 𝓣.C 𝓣.Λ En turn.t-3 (at_ret En Post) $
-        closes_slice ! tt R ys (filledFrom xs k.0 ys) (same_length k) b o $
+        closes_slice ! tt R ys (filled_from xs k.0 ys) (same_length k) b o $
         -- [obs; the borrow; the token; what x owns; its token; room for _8; …; room for _7; …; room for _6; …; _5; …; _4; …; _3; …; _2; …; _1; …; room for _0; …]
         assigns ! (of_opd ! (unit_lit !)) (from ! (stop !)) (init ! 21 refl (tt, tt)) $
         returns ! (look ! 21 refl) $ forget ! 11 refl $ forget ! 13 refl $ forget ! 15 refl $ forget ! 17 refl $ forget ! 19 refl $ forget ! 21 refl $
         move ! (21 ∷ 22 ∷ []) $ free1 ! $ move ! (19 ∷ 20 ∷ []) $ free1 ! $ move ! (17 ∷ 18 ∷ []) $ free1 ! $ move ! (15 ∷ 16 ∷ []) $ free1 ! $ move ! (13 ∷ 14 ∷ []) $ free1 ! $ move ! (11 ∷ 12 ∷ []) $ free1 ! $
         move ! (9 ∷ 10 ∷ []) $ free1 ! $ move ! (7 ∷ 8 ∷ []) $ free1 ! $ move ! (5 ∷ 6 ∷ []) $ free1 ! $ free0 ! $
-        by ! (exits (filledFrom xs k.0 ys) (ap (λ (j : ℕ). filledFrom xs j ys) (le_antisymm k.1 (nltb→le k.0 n over))) (same_length k)))
+        by ! (exits (filled_from xs k.0 ys) (ap (λ (j : ℕ). filled_from xs j ys) (le_antisymm k.1 (nltb→le k.0 n over))) (same_length k)))
       where
         fits : (j : Upto) → j.0 < 2 ^ 64
         fits j = lt_of_le_of_lt j.1 n-fits
@@ -223,11 +223,11 @@ module _ {M : Type 1} {𝓤 : Ura M} (𝓛 : Logic 𝓤) (mem : Memory → SProp
         inside : Holds (ltb k.0 n) → k.0 * 5 + 5 ≤ length xs
         inside less = omega (arith, ltb→lt k.0 n less, enough.1)
 
-        within-now : Holds (ltb k.0 n) → k.0 < length (filledFrom xs k.0 ys)
+        within-now : Holds (ltb k.0 n) → k.0 < length (filled_from xs k.0 ys)
         within-now less = subst (λ (m : ℕ). k.0 < m) (sym (same_length k)) (within less)
 
         within-fits : Holds (ltb k.0 n) → k.0 * bytes < 2 ^ 64
-        within-fits less = place-fits k.0 (length ys) (within less) room.1
+        within-fits less = place_fits k.0 (length ys) (within less) room.1
 
   -- the MIR up to the loop: the borrow is opened once, before it
   walk : (𝓣 : Tables 𝓤 H) → Triple 𝓤 (𝓣.C #lives·record-in) (RecordIn 𝓛 mem run) → ent 𝓤 (on_entry 𝓛 fill'.signature κs (q, (q', tt)) a at) (WpFn 𝓤 H 𝓣.C 𝓣.Λ code.function (s ∷ sx ∷ vint w64 n ∷ []) Post)
@@ -260,9 +260,9 @@ fill_meets {𝓤 = 𝓤} 𝓛 mem run 𝓣 known =
     walk_Meets 𝓛 fill'.ended stayed (Goes-slice 𝓛 2 0 tt (plain (λ _. R)), (Goes-none_slice 𝓛 2 (1 ∷ []) tt (plain (λ _. u32)) yes, (Goes-none 𝓛 2 (λ _. usize) yes (λ κs x f. refl), tt))) (fill'.clauses 𝓛 mem run)
     (WpFn 𝓤 𝓛.H 𝓣.C 𝓣.Λ code.function) (WpFn-mono 𝓤 𝓛.H 𝓛.laws 𝓣 code.function) (fill_walks 𝓛 mem run 𝓣 known)
 
-pub fill-from-spec : {M : Type 1} → stated.statement M
+pub fill_from_spec : {M : Type 1} → stated.statement M
 unfolding code.routine tables_of
-fill-from-spec 𝓤 𝓛 𝓜 𝓡 =
+fill_from_spec 𝓤 𝓛 𝓜 𝓡 =
     entered 𝓤 𝓛.H (triple_of 𝓛 fill'.signature (fill'.spec 𝓛 𝓜.mem 𝓡.run))
     (tables 𝓤 𝓛.H 𝓜 𝓡 code.env).C (tables 𝓤 𝓛.H 𝓜 𝓡 code.env).Λ #lives·fill-from code.function (code.unfolded 𝓤 𝓛.H 𝓜 𝓡)
     (fill_meets 𝓛 𝓜.mem 𝓡.run (tables_of 𝓤 𝓛.H 𝓜 (tables 𝓤 𝓛.H 𝓜 𝓡 code.env))

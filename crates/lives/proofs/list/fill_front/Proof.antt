@@ -41,13 +41,13 @@ use denote.Triple.Walked.{says, needs, Stays, stay_none, stay_none_slice, gave_s
 use denote.Triple.Clauses.{ensured, lasts}
 use denote.Exit.{yes}
 use Rattle.rules.specs.declared.Answer.{Answer}
-use Rattle.rules.specs.Table.{mostValues}
+use Rattle.rules.specs.Table.{most_values}
 use Rattle.rules.specs.Numbers.{told}
 use Rattle.rules.specs.contracts.Answer as S
 use Rattle.rules.proofs.Answer.TheLaws as S'
 use Rattle.lives.specs.declared.LiveValue.{LiveValue}
 use Rattle.lives.specs.declared.Lives.{Lives}
-use Rattle.lives.specs.Lives.{liveTold, liveFront}
+use Rattle.lives.specs.Lives.{live_told, live_front}
 use Rattle.lives.specs.Values.{filled, Fills}
 use Rattle.lives.specs.contracts.Lives as P
 use Rattle.lives.proofs.Lives.TheLaws as P'
@@ -169,19 +169,19 @@ module _ {M : Type 1} {𝓤 : Ura M} (𝓛 : Logic 𝓤) (mem : Memory → SProp
   abbrev to_fill : Lives → ℕ → Val → Val → (Fill 𝓛 mem run).Ghost
   to_fill p n u z = (((κ, tt), (q, tt), tt, (list, (p, (n, tt))), (s ∷ [], (u ∷ [], (z ∷ [], tt)))), tt)
 
-  goes-fill : (p : Lives) (n : ℕ) (u z : Val) → (n ≤ length ys) × (n ≤ mostValues)
+  goes-fill : (p : Lives) (n : ℕ) (u z : Val) → (n ≤ length ys) × (n ≤ most_values)
       → ent 𝓤 (⋆ 𝓛 ((‵ (flft κ q) ⊛ ‵ ftrue) ∷ ‵ (owns (MutSlice (named 0) κ R ∷ P.the_row ∷ usize ∷ []) (list, (p, (n, tt))) (s ∷ [], (u ∷ [], (z ∷ [], tt)))) ∷ [])) ((Fill 𝓛 mem run).pre (to_fill p n u z))
   goes-fill p n u z few = qed 𝓛 ((‵ (flft κ q) ⊛ ‵ ftrue) ∷ ‵ (owns (MutSlice (named 0) κ R ∷ P.the_row ∷ usize ∷ []) (list, (p, (n, tt))) (s ∷ [], (u ∷ [], (z ∷ [], tt)))) ∷ []) ∵ says ! few $ frame ! $ done !
 
   -- what is answered and filled, of the four callees' facts
   abbrev Done : Answer → List LiveValue → Type 0
-  Done r zs = (told r ≡ liveTold xs sg rm) × (zs ≡ liveFront xs sg rm ys)
+  Done r zs = (told r ≡ live_told xs sg rm) × (zs ≡ live_front xs sg rm ys)
 
   together : (p : Lives) (n : ℕ) (r : Answer) (zs : List LiveValue) → Fills xs sg rm p → n ≡ p.count → r ≡ p.answer → zs ≡ filled p n ys → Done r zs
   together p n r zs e e₂ e₃ e₄ = (ap told e₃ ∙ e.says, e₄ ∙ ap (λ (k : ℕ). filled p k ys) e₂ ∙ e.fills ys)
 
-  few-enough : (p : Lives) (n : ℕ) → Fills xs sg rm p → n ≡ p.count → (n ≤ length ys) × (n ≤ mostValues)
-  few-enough p n e e₂ = subst (λ (k : ℕ). (k ≤ length ys) × (k ≤ mostValues)) (sym e₂) (le_trans e.lent enough, e.few)
+  few-enough : (p : Lives) (n : ℕ) → Fills xs sg rm p → n ≡ p.count → (n ≤ length ys) × (n ≤ most_values)
+  few-enough p n e e₂ = subst (λ (k : ℕ). (k ≤ length ys) × (k ≤ most_values)) (sym e₂) (le_trans e.lent enough, e.few)
 
   exits : (r : Answer) (w : Val) (zs : List LiveValue) → Done r zs → length zs ≡ length ys
       → ent 𝓤 (⋆ 𝓛 ((‵ (flft κ q) ⊛ ‵ ftrue) ∷ (‵ (flft κ' q') ⊛ ‵ ftrue) ∷ ‵ (finally R γ zs) ∷ ‵ OwnX ∷ ‵ ((S.the_row).own_val r (w ∷ [])) ∷ [])) (Post w)
@@ -261,9 +261,9 @@ front-meets {𝓤 = 𝓤} 𝓛 mem run 𝓣 known-lives known-count known-answer
     (Goes-gave_slice 𝓛 2 0 tt (plain (λ _. R)), (Goes-none_slice 𝓛 2 (1 ∷ []) tt (plain (λ _. u8)) yes, (Goes-none 𝓛 2 (λ _. usize) yes (λ κs x f. refl), (Goes-none 𝓛 2 (λ _. usize) yes (λ κs x f. refl), tt)))) (front.clauses 𝓛 mem run)
     (WpFn 𝓤 𝓛.H 𝓣.C 𝓣.Λ code.function) (WpFn-mono 𝓤 𝓛.H 𝓛.laws 𝓣 code.function) (front-walks 𝓛 mem run 𝓣.C 𝓣.Λ (fm_of 𝓤 𝓛.H 𝓛.laws 𝓣) known-lives known-count known-answer known-fill)
 
-pub fill-front-spec : {M : Type 1} → stated.statement M
+pub fill_front_spec : {M : Type 1} → stated.statement M
 unfolding code.routine tables_of
-fill-front-spec 𝓤 𝓛 𝓜 𝓡 =
+fill_front_spec 𝓤 𝓛 𝓜 𝓡 =
     entered 𝓤 𝓛.H (triple_of 𝓛 front.signature (front.spec 𝓛 𝓜.mem 𝓡.run))
     (tables 𝓤 𝓛.H 𝓜 𝓡 code.env).C (tables 𝓤 𝓛.H 𝓜 𝓡 code.env).Λ #lives·fill-front code.function (code.unfolded 𝓤 𝓛.H 𝓜 𝓡)
     (front-meets 𝓛 𝓜.mem 𝓡.run (tables_of 𝓤 𝓛.H 𝓜 (tables 𝓤 𝓛.H 𝓜 𝓡 code.env))

@@ -45,17 +45,17 @@ use denote.Triple.Walked.{says, Stays, stay_none, stay_none_slice, walk_of, Goes
 use denote.Triple.Clauses.{ensured, lasts}
 use denote.Exit.{yes}
 use Rattle.rules.specs.declared.Answer.{Answer}
-use Rattle.rules.specs.Table.{mostLent}
+use Rattle.rules.specs.Table.{most_lent}
 use Rattle.rules.specs.Numbers.{told}
 use Rattle.rules.specs.contracts.Answer as S
 use Rattle.rules.proofs.Answer.TheLaws as S'
 use Rattle.lives.specs.declared.LiveValue.{LiveValue}
-use Rattle.lives.specs.Lives.{liveTold, liveFront}
+use Rattle.lives.specs.Lives.{live_told, live_front}
 use Rattle.lives.specs.contracts.LiveValue as T
 use Rattle.lives.proofs.LiveValue.TheLaws as T'
 use Rattle.lives.specs.contracts.list.Lived as D₁
 use Rattle.lives.proofs.list.Lived.TheLaws as D₁'
-use Rattle.lives.proofs.Lending.{arrayTy, lends-array, array_back, repeats, as-field}
+use Rattle.lives.proofs.Lending.{array_ty, lends_array, array_back, repeats, as_field}
 use Rattle.lives.proofs.Rows.{R, vals, tells}
 use Rattle.lives.specs.contracts.list.at_most as atmost
 use Rattle.lives.proofs.list.at_most.Symbol as atmost-def
@@ -85,7 +85,7 @@ module _ {M : Type 1} {𝓤 : Ura M} (𝓛 : Logic 𝓤) (mem : Memory → SProp
   open 𝓛 use {H}
 
   abbrev ys : List LiveValue
-  ys = replicate mostLent v
+  ys = replicate most_lent v
 
   abbrev xs : List ℕ
   xs = x.now
@@ -117,15 +117,15 @@ module _ {M : Type 1} {𝓤 : Ura M} (𝓛 : Logic 𝓤) (mem : Memory → SProp
       qed 𝓛 [] ∵ nothing ! $ nothing ! $ owned ! usize (Is usize) (uint_Makes 𝓛 w64) rm _ (refl, rm_fits) $ fjoin ! $ move ! (1 ∷ 0 ∷ []) $
       use2 𝓛 (raw ((AtMost 𝓛 mem run).pre to-most)) (qed 𝓛 (‵ ftrue ∷ ‵ (owns (usize ∷ []) (rm, tt) (vint w64 rm ∷ [], tt)) ∷ []) ∵ join ! $ frame ! $ done !) $ done !
 
-  most-said : (n : ℕ) → ent 𝓤 (ensured 𝓛 atmost.ended (atmost.clauses 𝓛 mem run) tt (rm, tt) tt n) (fact 𝓤 (n ≡ min rm mostLent))
-  most-said n = ex_e 𝓤 _ (λ ws. snd∗ 𝓤 (sem 𝓛 (lasts atmost.ended tt (rm, tt) ws)) (fact 𝓤 (n ≡ min rm mostLent)))
+  most-said : (n : ℕ) → ent 𝓤 (ensured 𝓛 atmost.ended (atmost.clauses 𝓛 mem run) tt (rm, tt) tt n) (fact 𝓤 (n ≡ min rm most_lent))
+  most-said n = ex_e 𝓤 _ (λ ws. snd∗ 𝓤 (sem 𝓛 (lasts atmost.ended tt (rm, tt) ws)) (fact 𝓤 (n ≡ min rm most_lent)))
 
   -- ---- the call of `fill_front`: the local at l₆ is lent for the lifetime ν, under the name δ, n of its records
   abbrev list : ℕ → GName → MutBor (List LiveValue)
   list l₆ δ = record { ref_ptr = (l₆, 0); ghost_name = δ; now = ys }
 
   abbrev s : ℕ → Val
-  s l₆ = slice_val (l₆, 0) mostLent
+  s l₆ = slice_val (l₆, 0) most_lent
 
   abbrev κs : ℕ → Lfts 2
   κs ν = (ν ∷ [], (κ, tt))
@@ -142,8 +142,8 @@ module _ {M : Type 1} {𝓤 : Ura M} (𝓛 : Logic 𝓤) (mem : Memory → SProp
   abbrev to : ℕ → ℕ → GName → ℕ → Val → (Front 𝓛 mem run).Ghost
   to l₆ ν δ n z = ((κs ν, (full_share, (q, tt)), tt, args l₆ δ n, passed l₆ z), tt)
 
-  within : (n : ℕ) → n ≡ min rm mostLent → n ≤ length ys
-  within n e = omega (arith, e, length-replicate mostLent v)
+  within : (n : ℕ) → n ≡ min rm most_lent → n ≤ length ys
+  within n e = omega (arith, e, length-replicate most_lent v)
 
   goes : (l₆ ν : ℕ) (δ : GName) (n : ℕ) (z : Val) → n ≤ length ys
       → ent 𝓤 (⋆ 𝓛 ((‵ (flft (ν ∷ []) full_share) ⊛ ‵ (flft κ q) ⊛ ‵ ftrue) ∷ ‵ (owns (MutSlice (named 0) (ν ∷ []) R ∷ ShrSlice (named 1) κ u8 ∷ usize ∷ usize ∷ []) (args l₆ δ n) (passed l₆ z)) ∷ [])) ((Front 𝓛 mem run).pre (to l₆ ν δ n z))
@@ -151,16 +151,16 @@ module _ {M : Type 1} {𝓤 : Ura M} (𝓛 : Logic 𝓤) (mem : Memory → SProp
 
   -- what `fill_front` ensures of its answer and its last list, where n records are lent
   abbrev Said : ℕ → Answer → List LiveValue → Type 0
-  Said n r zs = (told r ≡ liveTold xs sg n) × (zs ≡ liveFront xs sg n ys)
+  Said n r zs = (told r ≡ live_told xs sg n) × (zs ≡ live_front xs sg n ys)
 
-  lent_is : (n : ℕ) (r : Answer) (zs : List LiveValue) → n ≡ min rm mostLent → Said n r zs → Said (min rm mostLent) r zs
-  lent_is n r zs e d = (d.0 ∙ ap (liveTold xs sg) e, d.1 ∙ ap (λ (k : ℕ). liveFront xs sg k ys) e)
+  lent_is : (n : ℕ) (r : Answer) (zs : List LiveValue) → n ≡ min rm most_lent → Said n r zs → Said (min rm most_lent) r zs
+  lent_is n r zs e d = (d.0 ∙ ap (live_told xs sg) e, d.1 ∙ ap (λ (k : ℕ). live_front xs sg k ys) e)
 
   -- the machine value of the result, of the answer's and the array's
   abbrev mach : Val → Val → Val
   mach u w = vstruct (vcons u (vcons w vnil))
 
-  exits : (r : Answer) (zs : List LiveValue) (u w : Val) → Said (min rm mostLent) r zs → Is D₁.the_row (record { answer = r; values = zs }) (mach u w ∷ []) → ent 𝓤 (⋆ 𝓛 ((‵ (flft κ q) ⊛ ‵ ftrue) ∷ ‵ OwnX ∷ [])) (Post (mach u w))
+  exits : (r : Answer) (zs : List LiveValue) (u w : Val) → Said (min rm most_lent) r zs → Is D₁.the_row (record { answer = r; values = zs }) (mach u w ∷ []) → ent 𝓤 (⋆ 𝓛 ((‵ (flft κ q) ⊛ ‵ ftrue) ∷ ‵ OwnX ∷ [])) (Post (mach u w))
   exits r zs u w e is =
       qed 𝓛 ((‵ (flft κ q) ⊛ ‵ ftrue) ∷ ‵ OwnX ∷ []) ∵
       suffices ! _ (ends_at 𝓛 values'.ended stayed (values'.clauses 𝓛 mem run) (((κ, tt), (q, tt), tt, a, at), tt) (mach u w) (record { answer = r; values = zs }) (tt, (tt, (tt, (tt, tt)))) (tt, (tt, (tt, (tt, tt))))) $ says ! e $
@@ -178,17 +178,17 @@ module _ {M : Type 1} {𝓤 : Ura M} (𝓛 : Logic 𝓤) (mem : Memory → SProp
         use0 𝓛 (raw ((AtMost 𝓛 mem run).pre to-most)) goes-most $
         calls_at ! fm (AtMost 𝓛 mem run) known-most to-most (and_then ! (load ! (from ! (stop !)) (look ! 15 refl)) (no_more !)) (λ z.
         use1 𝓛 (later (some (λ (n : ℕ). (‵ ftrue ⊛ ‵ (usize.own_val n (z ∷ []))) ⊛ raw (ensured 𝓛 atmost.ended (atmost.clauses 𝓛 mem run) tt (rm, tt) tt n)))) (id⊢ 𝓤 _) $ await ! tt $ pick ! (λ n.
-        split ! $ move ! (1 ∷ []) $ use1 𝓛 (raw (fact 𝓤 (n ≡ min rm mostLent))) (most-said n) $ heard ! (n ≡ min rm mostLent) (λ e₀. split ! $ drop ! $
+        split ! $ move ! (1 ∷ []) $ use1 𝓛 (raw (fact 𝓤 (n ≡ min rm most_lent))) (most-said n) $ heard ! (n ≡ min rm most_lent) (λ e₀. split ! $ drop ! $
         -- [the number; room for _10; …]
         peeks ! usize (Is usize) (shows 𝓛 usize) n (z ∷ []) (λ is₀.
         land ! (from ! (stop !)) (init ! 11 refl ((uint_Lawful 𝓛 w64).typed n _ is₀).0) $ drop ! $
-        assigns ! (rep ! mostLent (load ! (from ! (stop !)) (look ! 12 refl))) (from ! (stop !)) (init ! 8 refl (array_typed ys (array_val (replicate mostLent mv)) all-before)) $
+        assigns ! (rep ! most_lent (load ! (from ! (stop !)) (look ! 12 refl))) (from ! (stop !)) (init ! 8 refl (array_typed ys (array_val (replicate most_lent mv)) all-before)) $
         assigns ! (addr ! (from ! (stop !))) (from ! (stop !)) (init ! 4 refl (tt, tt)) $
         assigns ! (agg ! (and_then ! (load ! (from ! (stop !)) (look ! 4 refl)) (and_then ! (lit ! tt) (no_more !)))) (from ! (stop !)) (init ! 2 refl (tt, (tt, (record { fits = lit< tt }, tt)))) $
         -- the array is lent as a slice, for a lifetime ν of the call
         move ! (23 ∷ []) $ fsplit ! $ move ! (1 ∷ []) $ drop ! $ lft_new ! tt (λ ν. move ! (10 ∷ []) $
-        use1 𝓛 (later (some (λ (δ : GName). ‵ ((MutSlice (named 0) (ν ∷ []) R).own_val (list l₆ δ) (s l₆ ∷ [])) ⊛ ‵ (flent (ν ∷ []) (Held R mostLent l₆ 0 δ)))))
-        (lends-array R 𝓛 (LL.makes T.the_type T'.the_plain 𝓛) mostLent l₆ (ν ∷ []) tt (named 0) ys (array_val (replicate mostLent mv)) all-before (lit< tt, lit< tt)) $ await ! tt $ pick ! (λ δ. split ! $
+        use1 𝓛 (later (some (λ (δ : GName). ‵ ((MutSlice (named 0) (ν ∷ []) R).own_val (list l₆ δ) (s l₆ ∷ [])) ⊛ ‵ (flent (ν ∷ []) (Held R most_lent l₆ 0 δ)))))
+        (lends_array R 𝓛 (LL.makes T.the_type T'.the_plain 𝓛) most_lent l₆ (ν ∷ []) tt (named 0) ys (array_val (replicate most_lent mv)) all-before (lit< tt, lit< tt)) $ await ! tt $ pick ! (λ δ. split ! $
         -- [the slice; the lender's part; ν's token; what x owns; room for _10; …; the token]
         move ! (2 ∷ 25 ∷ []) $ join ! $ move ! (3 ∷ []) $ use1 𝓛 (‵ OwnX ⊛ ‵ OwnX) ((shr_slice_copy 𝓛 (named 0) κ u8).twice x (sx ∷ [])) $ split ! $
         nothing ! $ owned ! usize (Is usize) (uint_Makes 𝓛 w64) n _ is₀ $ fjoin ! $ owned ! usize (Is usize) (uint_Makes 𝓛 w64) sg _ (refl, sg-fits) $ fjoin ! $
@@ -204,7 +204,7 @@ module _ {M : Type 1} {𝓤 : Ura M} (𝓛 : Logic 𝓤) (mem : Memory → SProp
         land ! (from ! (stop !)) (init ! 12 refl ((EL.lawful S.the_type S'.the_laws 𝓛 tt).typed r _ is).0) $
         -- the lifetime is ended, and the array comes back at that list
         move ! (1 ∷ []) $ split ! $ lft_end ! tt $ move ! (0 ∷ 6 ∷ 3 ∷ []) $
-        use3 𝓛 (later (some (λ (w : Val). given (Is (Array R mostLent) zs.0 (w ∷ [])) (‵ (fat full_share (arrayTy R mostLent) l₆ 0 w))))) (array_back R 𝓛 (LL.makes T.the_type T'.the_plain 𝓛) mostLent l₆ (ν ∷ []) δ zs.0) $ await ! tt $ pick ! (λ w. learn ! (λ is_a.
+        use3 𝓛 (later (some (λ (w : Val). given (Is (Array R most_lent) zs.0 (w ∷ [])) (‵ (fat full_share (array_ty R most_lent) l₆ 0 w))))) (array_back R 𝓛 (LL.makes T.the_type T'.the_plain 𝓛) most_lent l₆ (ν ∷ []) δ zs.0) $ await ! tt $ pick ! (λ w. learn ! (λ is_a.
         -- [_6; the token; the answer; …; what x owns; room for _10; …; _9; …; _8; …; _7; …; that _6 dies; _5; …; _4; …; _3; …; _2; …; _1; …; room for _0; …]
         assigns ! (of_opd ! (load ! (from ! (stop !)) (look ! 0 refl))) (from ! (stop !)) (init ! 5 refl (array_typed zs.0 w is_a)) $
         assigns ! (agg ! (and_then ! (load ! (from ! (stop !)) (look ! 11 refl)) (and_then ! (load ! (from ! (stop !)) (look ! 5 refl)) (no_more !)))) (from ! (stop !)) (init ! 24 refl ((LL.lawful D₁.the_type D₁'.the_laws 𝓛).typed (record { answer = r; values = zs.0 }) _ (made r zs.0 u w is is_a)).0) $
@@ -213,14 +213,14 @@ module _ {M : Type 1} {𝓤 : Ura M} (𝓛 : Logic 𝓤) (mem : Memory → SProp
         move ! (0 ∷ 13 ∷ []) $ free1 ! $ move ! (10 ∷ 11 ∷ []) $ free1 ! $ move ! (8 ∷ 9 ∷ []) $ free1 ! $ move ! (6 ∷ 7 ∷ []) $ free1 ! $ move ! (4 ∷ 5 ∷ []) $ free1 ! $ free0 ! $
         keep ! (0 ∷ 3 ∷ []) $ by ! (exits r zs.0 u w (lent_is n r zs.0 e₀ e) (made r zs.0 u w is is_a)))))))))))))))))))))))))))
       where
-        all-before : Is (Array R mostLent) ys (array_val (replicate mostLent mv) ∷ [])
-        all-before = repeats R mostLent v mv v-is
+        all-before : Is (Array R most_lent) ys (array_val (replicate most_lent mv) ∷ [])
+        all-before = repeats R most_lent v mv v-is
 
-        array_typed : (zs : List LiveValue) (w : Val) → Is (Array R mostLent) zs (w ∷ []) → Holds (has_ty (arrayTy R mostLent) w) × WT w
-        array_typed zs w is_a = ((Array-Lawful 𝓛 R (LL.lawful T.the_type T'.the_laws 𝓛) mostLent).typed zs (w ∷ []) is_a).0
+        array_typed : (zs : List LiveValue) (w : Val) → Is (Array R most_lent) zs (w ∷ []) → Holds (has_ty (array_ty R most_lent) w) × WT w
+        array_typed zs w is_a = ((Array-Lawful 𝓛 R (LL.lawful T.the_type T'.the_laws 𝓛) most_lent).typed zs (w ∷ []) is_a).0
 
-        made : (r : Answer) (zs : List LiveValue) (u w : Val) → Is S.the_row r (u ∷ []) → Is (Array R mostLent) zs (w ∷ []) → Is D₁.the_row (record { answer = r; values = zs }) (mach u w ∷ [])
-        made r zs u w is is_a = ((u ∷ [], (w ∷ [], tt)), (refl, (is, (as-field T.the_type mostLent zs (w ∷ []) is_a, tt))))
+        made : (r : Answer) (zs : List LiveValue) (u w : Val) → Is S.the_row r (u ∷ []) → Is (Array R most_lent) zs (w ∷ []) → Is D₁.the_row (record { answer = r; values = zs }) (mach u w ∷ [])
+        made r zs u w is is_a = ((u ∷ [], (w ∷ [], tt)), (refl, (is, (as_field T.the_type most_lent zs (w ∷ []) is_a, tt))))
 
 module _ {M : Type 1} {𝓤 : Ura M} (𝓛 : Logic 𝓤) (mem : Memory → SProp 𝓤) (run : Routine → Fun 𝓤) where
   open 𝓛 use {H}

@@ -43,7 +43,7 @@ use Rattle.rules.specs.Numbers.{told}
 use Rattle.rules.specs.contracts.Answer as S
 use Rattle.rules.proofs.Answer.TheLaws as S'
 use Rattle.lives.specs.declared.LiveValue.{LiveValue}
-use Rattle.lives.specs.Lives.{liveTold, liveFront}
+use Rattle.lives.specs.Lives.{live_told, live_front}
 use Rattle.lives.proofs.Rows.{R}
 use Rattle.lives.specs.contracts.list.fill_front as front
 use Rattle.lives.proofs.list.fill_front.Symbol as front-def
@@ -100,7 +100,7 @@ module _ {M : Type 1} {𝓤 : Ura M} (𝓛 : Logic 𝓤) (mem : Memory → SProp
   OwnX = (ShrSlice (named 0) κ' u8).own_val x (sx ∷ [])
 
   abbrev Said : Answer → List LiveValue → Type 0
-  Said r zs = (told r ≡ liveTold xs sg m) × (zs ≡ liveFront xs sg m ys)
+  Said r zs = (told r ≡ live_told xs sg m) × (zs ≡ live_front xs sg m ys)
 
   -- ---- the call of `fill_front`
   abbrev Given-to : Type 0
@@ -174,9 +174,9 @@ live-meets {𝓤 = 𝓤} 𝓛 mem run 𝓣 known =
     walk_Meets 𝓛 live.ended stayed (Goes-none_slice 𝓛 2 (0 ∷ []) tt (plain (λ _. u8)) yes, (Goes-none 𝓛 2 (λ _. usize) yes (λ κs x f. refl), (Goes-gave_slice 𝓛 2 1 tt (plain (λ _. R)), tt))) (live.clauses 𝓛 mem run)
     (WpFn 𝓤 𝓛.H 𝓣.C 𝓣.Λ code.function) (WpFn-mono 𝓤 𝓛.H 𝓛.laws 𝓣 code.function) (live-walks 𝓛 mem run 𝓣.C 𝓣.Λ (fm_of 𝓤 𝓛.H 𝓛.laws 𝓣) known)
 
-pub live-list-spec : {M : Type 1} → stated.statement M
+pub live_list_spec : {M : Type 1} → stated.statement M
 unfolding code.routine tables_of
-live-list-spec 𝓤 𝓛 𝓜 𝓡 =
+live_list_spec 𝓤 𝓛 𝓜 𝓡 =
     entered 𝓤 𝓛.H (triple_of 𝓛 live.signature (live.spec 𝓛 𝓜.mem 𝓡.run))
     (tables 𝓤 𝓛.H 𝓜 𝓡 code.env).C (tables 𝓤 𝓛.H 𝓜 𝓡 code.env).Λ #lives·live-list code.function (code.unfolded 𝓤 𝓛.H 𝓜 𝓡)
     (live-meets 𝓛 𝓜.mem 𝓡.run (tables_of 𝓤 𝓛.H 𝓜 (tables 𝓤 𝓛.H 𝓜 𝓡 code.env))

@@ -25,7 +25,7 @@ values-of-requires : tie.Need-values-of-requires
 values-of-requires c κs =
     let start = c.before.before.before.before.before.before.before.before.before.before in
     let said = c.before.before.before.before.before.before.before.before in
-    asked start.args.table.now said.read_table.result said.read_table.ensures (sym c.before.before.before.before.before.before.before.number.ensures ∙ c.before.before.before.before.before.before.if1.false) c.before.read-grid.result c.before.read-grid.ensures start.args.signal (omega (arith, c.before.before.before.if2.false))
+    asked start.args.table.now said.read_table.result said.read_table.ensures (sym c.before.before.before.before.before.before.before.number.ensures ∙ c.before.before.before.before.before.before.if1.false) c.before.read_grid.result c.before.read_grid.ensures start.args.signal (omega (arith, c.before.before.before.if2.false))
 
 returns-3 : tie.Need-returns-3
 returns-3 c =
@@ -34,7 +34,7 @@ returns-3 c =
     let gridded = c.before.before.before.before.before in
     let found = c.before.before.before in
     subst (Fills start.args.table.now start.args.signal start.args.room) (sym c.none3.ensures)
-    (short start.args.table.now said.read_table.result said.read_table.ensures (sym c.before.before.before.before.before.before.before.before.before.before.before.number.ensures ∙ c.before.before.before.before.before.before.before.before.before.before.if1.false) gridded.read-grid.result gridded.read-grid.ensures start.args.signal start.args.room (omega (arith, c.before.before.before.before.before.before.before.if2.false))
+    (short start.args.table.now said.read_table.result said.read_table.ensures (sym c.before.before.before.before.before.before.before.before.before.before.before.number.ensures ∙ c.before.before.before.before.before.before.before.before.before.before.if1.false) gridded.read_grid.result gridded.read_grid.ensures start.args.signal start.args.room (omega (arith, c.before.before.before.before.before.before.before.if2.false))
     found.values_of.result found.values_of.ensures.1.0.0 c.before.if3.true)
 
 returns-4 : tie.Need-returns-4
@@ -43,11 +43,11 @@ returns-4 c =
     let said = c.before.before.before.before.before.before.before.before.before.before.before in
     let gridded = c.before.before.before.before in
     let found = c.before.before in
-    whole start.args.table.now said.read_table.result said.read_table.ensures (sym c.before.before.before.before.before.before.before.before.before.before.number.ensures ∙ c.before.before.before.before.before.before.before.before.before.if1.false) gridded.read-grid.result gridded.read-grid.ensures start.args.signal start.args.room (omega (arith, c.before.before.before.before.before.before.if2.false))
+    whole start.args.table.now said.read_table.result said.read_table.ensures (sym c.before.before.before.before.before.before.before.before.before.before.number.ensures ∙ c.before.before.before.before.before.before.before.before.before.if1.false) gridded.read_grid.result gridded.read_grid.ensures start.args.signal start.args.room (omega (arith, c.before.before.before.before.before.before.if2.false))
     found.values_of.result found.values_of.ensures.1.0.0 c.if3.false found.values_of.ensures.0 found.values_of.ensures.1.0.1 found.values_of.ensures.1.1
 
-pub lives-of-spec : {M : Type 1} → statement M
-lives-of-spec =
+pub lives_of_spec : {M : Type 1} → statement M
+lives_of_spec =
     tie.close
     (tie.spec
     (λ c κs. search rules)

@@ -6,14 +6,14 @@ use Prim.Native.Nat.{◌-◌, ◌≤◌}
 use native.Mathlib.Omega.{arith}
 use Rattle.rules.specs.Values.{Life}
 use Rattle.rules.specs.Numbers.{tell}
-use Rattle.lives.specs.Values.{livesBelow, Held}
+use Rattle.lives.specs.Values.{lives_below, Held}
 use Rattle.lives.proofs.Held.{moved}
-use Rattle.lives.proofs.Found.{ordering, signal-low, carrying, few, opens_one, starts, passes-by, room, finds, all-counted, all_found}
+use Rattle.lives.proofs.Found.{ordering, signal_low, carrying, few, opens_one, starts, passes_by, room, finds, all_counted, all_found}
 use Rattle.lives.proofs.values.values_of.Statement.{statement}
 use Rattle.lives.proofs.values.values_of.Tie as tie
 
 abbrev invariant-loop : tie.invariant-loop
-invariant-loop tasks grid signal hyper events carried held₀ values₀ count₀ n₀ held values count n = (n ≤ events.count) × Held (livesBelow tasks grid signal hyper events.list n) held values count
+invariant-loop tasks grid signal hyper events carried held₀ values₀ count₀ n₀ held values count n = (n ≤ events.count) × Held (lives_below tasks grid signal hyper events.list n) held values count
 
 abbrev decreases-loop : tie.decreases-loop
 decreases-loop tasks grid signal hyper events carried held₀ values₀ count₀ n₀ held values count n = events.count - n
@@ -38,7 +38,7 @@ element-copy-out-event c =
     omega (arith, few a.tasks a.signals a.grid.now a.hyper a.signal start.requires ordered.order-events.result ordered.order-events.ensures, c.loop-test.true)
 
 is-written-requires : tie.Need-is-written-requires invariant-loop decreases-loop
-is-written-requires c κs = let start = c.before.before.before.before.before in let a = start.args in signal-low a.tasks a.signals a.grid.now a.hyper a.signal start.requires
+is-written-requires c κs = let start = c.before.before.before.before.before in let a = start.args in signal_low a.tasks a.signals a.grid.now a.hyper a.signal start.requires
 
 written-requires : tie.Need-written-requires invariant-loop decreases-loop
 written-requires c κs =
@@ -47,7 +47,7 @@ written-requires c κs =
     let at-loop = c.before.before.before.before.before in
     let a = start.args in
     opens_one a.tasks a.signals a.grid.now a.hyper a.signal start.requires ordered.order-events.result ordered.order-events.ensures at-loop.loop.n c.before.before.before.before.loop-test.true
-    (sym c.before.before.is-written.ensures ∙ c.before.if1.true)
+    (sym c.before.before.is_written.ensures ∙ c.before.if1.true)
 
 -- there is room for one value more
 array-set-from-values-2 : tie.Need-array-set-from-values-2 invariant-loop decreases-loop
@@ -57,7 +57,7 @@ array-set-from-values-2 c =
     let at-loop = c.before.before.before.before.before.before in
     let a = start.args in
     room a.tasks a.signals a.grid.now a.hyper a.signal start.requires ordered.order-events.result ordered.order-events.ensures at-loop.loop.n c.before.before.before.before.before.loop-test.true
-    (sym c.before.before.before.is-written.ensures ∙ c.before.before.if1.true) at-loop.loop.held at-loop.loop.values at-loop.loop.count at-loop.loop.invariant.1
+    (sym c.before.before.before.is_written.ensures ∙ c.before.before.if1.true) at-loop.loop.held at-loop.loop.values at-loop.loop.count at-loop.loop.invariant.1
 
 loop-again : tie.Need-loop-preserved invariant-loop decreases-loop
 loop-again c =
@@ -66,11 +66,11 @@ loop-again c =
     let at-loop = c.before.before.before.before in
     let a = start.args in
     let taken = c.before.before.before.loop-test.true in
-    let said = sym c.before.is-written.ensures in (
+    let said = sym c.before.is_written.ensures in (
       omega (arith, taken),
       ⊎_elim
           (λ w. moved w.3 w.4 w.5 (finds a.tasks a.signals a.grid.now a.hyper a.signal start.requires ordered.order-events.result ordered.order-events.ensures at-loop.loop.n taken (said ∙ w.0.taken) at-loop.loop.held at-loop.loop.values at-loop.loop.count at-loop.loop.invariant.1 _ _ w.2.ensures.0 w.2.ensures.1))
-          (λ w. moved w.1 w.2 w.3 (subst (λ (ls : List Life). Held ls at-loop.loop.held at-loop.loop.values at-loop.loop.count) (sym (passes-by a.tasks a.signals a.grid.now a.hyper a.signal start.requires ordered.order-events.result ordered.order-events.ensures at-loop.loop.n (said ∙ w.0.left))) at-loop.loop.invariant.1))
+          (λ w. moved w.1 w.2 w.3 (subst (λ (ls : List Life). Held ls at-loop.loop.held at-loop.loop.values at-loop.loop.count) (sym (passes_by a.tasks a.signals a.grid.now a.hyper a.signal start.requires ordered.order-events.result ordered.order-events.ensures at-loop.loop.n (said ∙ w.0.left))) at-loop.loop.invariant.1))
           c.if1.branch,
     )
 
@@ -81,7 +81,7 @@ returns c =
     let at-loop = c.before in
     let a = start.args in
     let e : at-loop.loop.n ≡ ordered.order-events.result.count = omega arith in
-    let n = all-counted a.tasks a.signals a.grid.now a.hyper a.signal start.requires ordered.order-events.result ordered.order-events.ensures at-loop.loop.n e at-loop.loop.held at-loop.loop.values at-loop.loop.count at-loop.loop.invariant.1 in (
+    let n = all_counted a.tasks a.signals a.grid.now a.hyper a.signal start.requires ordered.order-events.result ordered.order-events.ensures at-loop.loop.n e at-loop.loop.held at-loop.loop.values at-loop.loop.count at-loop.loop.invariant.1 in (
       ap (tell 0) n.0,
       (
         n,
@@ -89,8 +89,8 @@ returns c =
       ),
     )
 
-pub values-of-spec : {M : Type 1} → statement M
-values-of-spec =
+pub values_of_spec : {M : Type 1} → statement M
+values_of_spec =
     tie.close
     (tie.spec
     invariant-loop

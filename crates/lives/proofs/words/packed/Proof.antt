@@ -3,17 +3,17 @@ use mathlib.Core.Path.{◌≡◌}
 use Prim.Native.Nat.{ℕ, ◌*◌, ◌-◌, ◌≤◌, ◌<◌}
 use lib.ListN.{length, length-replicate}
 use native.Mathlib.Omega.{arith}
-use Rattle.rules.specs.Table.{mostValues}
-use Rattle.lives.specs.Values.{recordWords, recordIn, value_at}
+use Rattle.rules.specs.Table.{most_values}
+use Rattle.lives.specs.Values.{record_words, record_in, value_at}
 use Rattle.lives.proofs.Packing.{one_more}
 use Rattle.lives.proofs.words.packed.Statement.{statement}
 use Rattle.lives.proofs.words.packed.Tie as tie
 
 abbrev invariant-loop : tie.invariant-loop
-invariant-loop lives words₀ k₀ words k = (k ≤ mostValues) × (length words ≡ mostValues * recordWords) × ((j : ℕ) → j < k → recordIn words j ≡ value_at lives j)
+invariant-loop lives words₀ k₀ words k = (k ≤ most_values) × (length words ≡ most_values * record_words) × ((j : ℕ) → j < k → record_in words j ≡ value_at lives j)
 
 abbrev decreases-loop : tie.decreases-loop
-decreases-loop lives words₀ k₀ words k = mostValues - k
+decreases-loop lives words₀ k₀ words k = most_values - k
 
 loop-holds : tie.Need-loop-init invariant-loop decreases-loop
 loop-holds c = (omega arith, length-replicate {A = ℕ} 2565 0, λ j h. absurd (omega arith))
@@ -31,8 +31,8 @@ returns c =
     let I = at-loop.loop.invariant in
     (I.1, λ k h. I.2 k (omega (arith, I.0, c.loop-test.false)))
 
-pub packed-spec : {M : Type 1} → statement M
-packed-spec =
+pub packed_spec : {M : Type 1} → statement M
+packed_spec =
     tie.close
     (tie.spec
     invariant-loop

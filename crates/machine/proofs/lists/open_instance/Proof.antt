@@ -6,9 +6,9 @@ use Rattle.machine.specs.Calls.{open_at, open_in}
 use Rattle.machine.proofs.lists.open_instance.Statement.{statement}
 use Rattle.machine.proofs.lists.open_instance.Tie as tie
 
-pub open-instance-spec : {M : Type 1} → statement M
+pub open_instance_spec : {M : Type 1} → statement M
 unfolding open_in
-open-instance-spec =
+open_instance_spec =
     tie.close
     (tie.spec
     (λ c κs. search rules)

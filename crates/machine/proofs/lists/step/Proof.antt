@@ -6,7 +6,7 @@ use Rattle.fields.proofs.Whens.{ladder}
 use Prim.Native.Nat.{ℕ}
 use mathlib.Core.List.{List}
 use Rattle.state.specs.Rows.{published, openings, advanced}
-use Rattle.machine.specs.Calls.{left, opened, stepIn}
+use Rattle.machine.specs.Calls.{left, opened, step_in}
 use Rattle.machine.proofs.lists.step.Statement.{statement}
 use Rattle.machine.proofs.lists.step.Tie as tie
 
@@ -15,7 +15,7 @@ moved : (n d s n₁ n₂ s₂ out : List ℕ) → n₁ ≡ published n → n₂ 
 moved n d s n₁ n₂ s₂ out p a b o = rw (o, a, b, p)
 
 pub step_spec : {M : Type 1} → statement M
-unfolding stepIn
+unfolding step_in
 step_spec =
     tie.close
     (tie.spec

@@ -4,7 +4,7 @@ use Prim.Native.Nat.{◌*◌, ◌-◌, ◌≤◌}
 use native.Mathlib.Omega.{arith}
 use lib.ListN.{get_or}
 use Rattle.rules.specs.Words.{total}
-use Rattle.form.proofs.Steps.{total-none, total-turn}
+use Rattle.form.proofs.Steps.{total_none, total_turn}
 use Rattle.plan.proofs.planning.in_all.Statement.{statement}
 use Rattle.plan.proofs.planning.in_all.Tie as tie
 
@@ -15,20 +15,20 @@ abbrev decreases-loop : tie.decreases-loop
 decreases-loop counts signals sum₀ s₀ sum s = signals - s
 
 loop-holds : tie.Need-loop-init invariant-loop decreases-loop
-loop-holds c = (omega arith, total-none _, omega arith)
+loop-holds c = (omega arith, total_none _, omega arith)
 
 loop-again : tie.Need-loop-preserved invariant-loop decreases-loop
 loop-again c =
     let I = c.before.before.before.loop.invariant in
-    (omega arith, total-turn _ _ I.1 c.wide.ensures.0 refl, omega (arith, c.wide.ensures.1, I.2))
+    (omega arith, total_turn _ _ I.1 c.wide.ensures.0 refl, omega (arith, c.wide.ensures.1, I.2))
 
 returns : tie.Need-returns invariant-loop decreases-loop
 returns c =
     let e : c.before.loop.s ≡ c.before.before.args.signals = omega arith in
     rw e at c.before.loop.invariant.1
 
-pub in-all-spec : {M : Type 1} → statement M
-in-all-spec =
+pub in_all_spec : {M : Type 1} → statement M
+in_all_spec =
     tie.close
     (tie.spec
     invariant-loop

@@ -12,13 +12,13 @@ returns c =
 plan-table-requires : tie.Need-plan-table-requires
 plan-table-requires c κs =
     let a = c.before.before.before.before.before.before.before.before.before.before.args in
-    fits a.table.now c.before.before.before.before.before.before.before.read_table.result c.before.before.before.before.before.before.before.read_table.ensures c.before.before.before.before.before.if1.false c.before.before.read-grid.result c.before.before.read-grid.ensures
+    fits a.table.now c.before.before.before.before.before.before.before.read_table.result c.before.before.before.before.before.before.before.read_table.ensures c.before.before.before.before.before.if1.false c.before.before.read_grid.result c.before.before.read_grid.ensures
 
 returns-2 : tie.Need-returns-2
 returns-2 c =
     let a = c.before.before.before.before.before.before.before.before.before.before.before.before.before.args in
     let P = c.before.before.plan-table.ensures in
-    accepted a.table.now c.before.before.before.before.before.before.before.before.before.before.read_table.result c.before.before.before.before.before.before.before.before.before.before.read_table.ensures c.before.before.before.before.before.before.before.before.if1.false c.before.before.before.before.before.read-grid.result c.before.before.before.before.before.read-grid.ensures _ a.out.now _ P.0 P.1
+    accepted a.table.now c.before.before.before.before.before.before.before.before.before.before.read_table.result c.before.before.before.before.before.before.before.before.before.before.read_table.ensures c.before.before.before.before.before.before.before.before.if1.false c.before.before.before.before.before.read_grid.result c.before.before.before.before.before.read_grid.ensures _ a.out.now _ P.0 P.1
 
-pub plan-spec : {M : Type 1} → statement M
-plan-spec = tie.close (tie.spec (λ c κs. search rules) returns (λ c κs. search rules) plan-table-requires (λ c. search rules) returns-2)
+pub plan_spec : {M : Type 1} → statement M
+plan_spec = tie.close (tie.spec (λ c κs. search rules) returns (λ c κs. search rules) plan-table-requires (λ c. search rules) returns-2)

@@ -5,10 +5,10 @@ use borrow.Author.Rules.{rules}
 use native.Mathlib.Omega.{arith}
 use lib.ListN.{drop, length}
 use Rattle.rules.specs.Numbers.{tell}
-use Rattle.rules.specs.Bytes.{scheduleLength}
+use Rattle.rules.specs.Bytes.{schedule_length}
 use Rattle.rules.specs.Reading.{table_of}
 use Rattle.form.proofs.Parted.{ready}
-use Rattle.plan.proofs.Planned.{sum_of, bytes-of, planning, room_for, over, short, whole}
+use Rattle.plan.proofs.Planned.{sum_of, bytes_of_lem, planning, room_for, over, short, whole}
 use Rattle.plan.proofs.planning.plan_table.Statement.{statement}
 use Rattle.plan.proofs.planning.plan_table.Tie as tie
 
@@ -16,7 +16,7 @@ plan-uses-requires : tie.Need-plan-uses-requires
 plan-uses-requires c κs = let start = c.before.before.before in let a = start.args in planning a.tasks a.signals a.grid.now a.hyper a.signals.count start.requires.0 start.requires.1 refl
 
 in-all-requires : tie.Need-in-all-requires
-in-all-requires c κs = omega (arith, c.before.before.before.before.before.requires.0.few-signals)
+in-all-requires c κs = omega (arith, c.before.before.before.before.before.requires.0.few_signals)
 
 returns : tie.Need-returns
 returns c =
@@ -54,11 +54,11 @@ returns-3 c =
     let e = c.before.before.before.before.before.before.before.length.ensures a.signals refl in
     let r = whole (table_of a.tasks a.signals a.grid.now) F a.out.now (omega (arith, c.before.before.before.before.before.before.before.before.if1.false, sum_of a.tasks a.signals a.grid.now F _ _ P.0 P.1 _ c.before.before.before.before.before.before.before.before.before.in_all.ensures)) (omega (arith, c.before.before.before.before.before.before.if2.false)) in (
       ap (tell 0) e ∙ r.0,
-      c.before.before.write.ensures a.signals refl ∙ ap (λ bs. bs ++ drop (scheduleLength (table_of a.tasks a.signals a.grid.now)) a.out.now) (bytes-of a.tasks a.signals a.grid.now F _ _ P.0 P.1) ∙ r.1,
+      c.before.before.write.ensures a.signals refl ∙ ap (λ bs. bs ++ drop (schedule_length (table_of a.tasks a.signals a.grid.now)) a.out.now) (bytes_of_lem a.tasks a.signals a.grid.now F _ _ P.0 P.1) ∙ r.1,
     )
 
-pub plan-table-spec : {M : Type 1} → statement M
-plan-table-spec =
+pub plan_table_spec : {M : Type 1} → statement M
+plan_table_spec =
     tie.close
     (tie.spec
     plan-uses-requires

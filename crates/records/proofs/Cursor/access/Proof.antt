@@ -6,7 +6,7 @@ use mathlib.Core.Path.{ap}
 use lib.ListN.{length}
 use Rattle.fields.proofs.Tested.{granted, room}
 use Rattle.fields.proofs.Whens.{ladder}
-use Rattle.rules.specs.Records.{Step, accessAt, accessIn, key_of}
+use Rattle.rules.specs.Records.{Step, access_at, access_in, key_of}
 use Rattle.rules.specs.declared.Access.{Access}
 use Rattle.records.proofs.Cursor.access.Statement.{statement}
 use Rattle.records.proofs.Cursor.access.Tie as tie
@@ -20,7 +20,7 @@ start c = c.before.before.before.before.before.before.before
 
 -- the access that stands here
 abbrev here : tie.After-access-in → Access
-here c = accessIn (start c).args.bytes.now (start c).args.self.at
+here c = access_in (start c).args.bytes.now (start c).args.self.at
 
 known-task : (c : tie.Else4) → (here c.before.before).task < (start c.before.before).args.tasks
 known-task c = omega (arith, ap (λ (x : Access). x.task) c.before.before.access-in.ensures)
@@ -29,36 +29,36 @@ known-signal : (c : tie.Else5) → (here c.before.before.before.before).signal <
 known-signal c = omega (arith, ap (λ (x : Access). x.signal) c.before.before.before.before.access-in.ensures)
 
 returns-4 : tie.Need-returns-4
-unfolding accessAt accessIn
+unfolding access_at access_in
 returns-4 c =
     let r = c.before.before in
     let h : (start r).args.tasks ≤ (here r).task = omega (arith, ap (λ (x : Access). x.task) r.access-in.ensures) in
     search ladder depth 9
 
 returns-5 : tie.Need-returns-5
-unfolding accessAt accessIn
+unfolding access_at access_in
 returns-5 c =
     let r = c.before.before.before.before in
     let h : (start r).args.signals ≤ (here r).signal = omega (arith, ap (λ (x : Access). x.signal) r.access-in.ensures) in
     search (ladder, known-task c.before.before) depth 9
 
 returns-6 : tie.Need-returns-6
-unfolding accessAt accessIn
+unfolding access_at access_in
 returns-6 c =
     let r = c.before.before.before.before.before.before.before in
     let h : key_of (here r) ≤ key_of (start r).args.last = omega (arith, ap key_of r.access-in.ensures) in
     search (ladder, known-task c.before.before.before.before.before, known-signal c.before.before.before) depth 9
 
 returns-7 : tie.Need-returns-7
-unfolding accessAt accessIn
+unfolding access_at access_in
 returns-7 c =
     let r = c.before.before.before.before.before.before.before in
     let h : key_of (start r).args.last < key_of (here r) = omega (arith, ap key_of r.access-in.ensures) in
     search (ladder, known-task c.before.before.before.before.before, known-signal c.before.before.before, ap (λ (x : Access). Step.taken x ((start r).args.self.at + 4)) r.access-in.ensures) depth 9
 
-pub access-spec : {M : Type 1} → statement M
-unfolding accessAt accessIn
-access-spec =
+pub access_spec : {M : Type 1} → statement M
+unfolding access_at access_in
+access_spec =
     tie.close
     (tie.spec
     (λ c κs. search rules)

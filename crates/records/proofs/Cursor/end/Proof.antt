@@ -7,9 +7,9 @@ use Rattle.rules.specs.Records.{end_at}
 use Rattle.records.proofs.Cursor.end.Statement.{statement}
 use Rattle.records.proofs.Cursor.end.Tie as tie
 
-pub end-spec : {M : Type 1} → statement M
+pub end_spec : {M : Type 1} → statement M
 unfolding end_at
-end-spec =
+end_spec =
     tie.close
     (tie.spec
     (λ c κs. search rules)

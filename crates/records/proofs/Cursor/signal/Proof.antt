@@ -5,7 +5,7 @@ use Prim.Native.Nat.{◌+◌, ◌≤◌}
 use lib.ListN.{length}
 use Rattle.fields.proofs.Tested.{granted, room}
 use Rattle.fields.proofs.Whens.{ladder}
-use Rattle.rules.specs.Records.{signalAt}
+use Rattle.rules.specs.Records.{signal_at}
 use Rattle.records.proofs.Cursor.signal.Statement.{statement}
 use Rattle.records.proofs.Cursor.signal.Tie as tie
 
@@ -14,7 +14,7 @@ whole : (c : tie.Else2) → let a = c.before.before.before.before.before.args in
 whole c = room _ _ _ (granted c.before.holds.ensures c.if2.false)
 
 pub signal_spec : {M : Type 1} → statement M
-unfolding signalAt
+unfolding signal_at
 signal_spec =
     tie.close
     (tie.spec

@@ -7,7 +7,7 @@ use lib.ListN.{length}
 use Rattle.fields.proofs.Tested.{granted, room}
 use Rattle.fields.proofs.Whens.{ladder}
 use Rattle.rules.specs.Table.{windowed}
-use Rattle.rules.specs.Records.{Step, taskAt, taskIn}
+use Rattle.rules.specs.Records.{Step, task_at, task_in}
 use Rattle.rules.specs.declared.Task.{Task}
 use Rattle.records.proofs.Cursor.task.Statement.{statement}
 use Rattle.records.proofs.Cursor.task.Tie as tie
@@ -19,17 +19,17 @@ whole c = room _ _ _ (granted c.before.holds.ensures c.if2.false)
 -- the window that was tested is the one that stands here
 tested : (c : tie.After-window-fits) →
     let a = c.before.before.before.before.before.before.before.before.args in
-    let t = taskIn a.bytes.now a.self.at in
-    c.window-fits.result ≡ windowed t.period t.start t.end
-tested c = c.window-fits.ensures ∙ ap (λ (t : Task). windowed t.period t.start t.end) c.before.task-in.ensures
+    let t = task_in a.bytes.now a.self.at in
+    c.window_fits.result ≡ windowed t.period t.start t.end
+tested c = c.window_fits.ensures ∙ ap (λ (t : Task). windowed t.period t.start t.end) c.before.task-in.ensures
 
 returns-5 : tie.Need-returns-5
-unfolding taskAt
+unfolding task_at
 returns-5 c = search (ladder, tested c.before, ap (λ (t : Task). Step.taken t (c.before.before.before.before.before.before.before.before.before.args.self.at + 14)) c.before.before.task-in.ensures) depth 9
 
-pub task-spec : {M : Type 1} → statement M
-unfolding taskAt
-task-spec =
+pub task_spec : {M : Type 1} → statement M
+unfolding task_at
+task_spec =
     tie.close
     (tie.spec
     (λ c κs. search rules)

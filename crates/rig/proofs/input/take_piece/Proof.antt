@@ -1,5 +1,5 @@
 -- `take_piece` is safe and ends: each turn passes a line feed or the end. Assumes nothing.
-use Rattle.rig.proofs.Told.{rest-length}
+use Rattle.rig.proofs.Told.{rest_length}
 use Prim.Native.Nat.{◌-◌}
 use mathlib.Core.Path.{◌≡◌, refl, ◌∙◌}
 use native.Mathlib.Omega.{arith}
@@ -20,7 +20,7 @@ add_at c =
     let at-loop-test = at-before2.before.before in
     let at-loop = at-loop-test.before in
     let start = at-loop.before.before.before.before.before.before in
-    omega (arith, rest-length start.args.piece.now at-loop.loop.at, at-before2.before2.ensures.1, at-loop-test.loop-test.true)
+    omega (arith, rest_length start.args.piece.now at-loop.loop.at, at-before2.before2.ensures.1, at-loop-test.loop-test.true)
 
 add-at-2 : tie.Need-overflow-add-at-2 invariant-loop decreases-loop
 add-at-2 c =
@@ -28,7 +28,7 @@ add-at-2 c =
     let at-loop-test = at-before2.before.before in
     let at-loop = at-loop-test.before in
     let start = at-loop.before.before.before.before.before.before in
-    omega (arith, rest-length start.args.piece.now at-loop.loop.at, at-before2.before2.ensures.1, at-loop-test.loop-test.true)
+    omega (arith, rest_length start.args.piece.now at-loop.loop.at, at-before2.before2.ensures.1, at-loop-test.loop-test.true)
 
 loop-less : tie.Need-loop-smaller invariant-loop decreases-loop
 loop-less c =
@@ -36,7 +36,7 @@ loop-less c =
     let at-loop-test = at-before2.before.before in
     let at-loop = at-loop-test.before in
     let start = at-loop.before.before.before.before.before.before in
-    omega (arith, rest-length start.args.piece.now at-loop.loop.at, at-before2.before2.ensures.1, at-loop-test.loop-test.true)
+    omega (arith, rest_length start.args.piece.now at-loop.loop.at, at-before2.before2.ensures.1, at-loop-test.loop-test.true)
 
 loop-again : tie.Need-loop-preserved invariant-loop decreases-loop
 loop-again c =
@@ -48,8 +48,8 @@ loop-again c =
       at-take-line.take-line.auto.1.1.1.1.1.0 ∙ at-loop.loop.invariant.3,
     )
 
-pub take-piece-spec : {M : Type 1} → statement M
-take-piece-spec =
+pub take_piece_spec : {M : Type 1} → statement M
+take_piece_spec =
     tie.close
     (tie.spec
     invariant-loop

@@ -12,8 +12,8 @@ invariant-loop out₀ at len values end₀ k₀ out end k = length out ≡ lengt
 abbrev decreases-loop : tie.decreases-loop
 decreases-loop out₀ at len values end₀ k₀ out end k = len - k
 
-pub put-values-spec : {M : Type 1} → statement M
-put-values-spec =
+pub put_values_spec : {M : Type 1} → statement M
+put_values_spec =
     tie.close
     (tie.spec
     invariant-loop

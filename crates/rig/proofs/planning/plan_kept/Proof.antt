@@ -12,8 +12,8 @@ slice-aggregate-plan-into c =
     let start = at-if1.before.before.before.before in
     sym (length-take-le start.args.len start.args.lent.now (omega (arith, at-if1.if1.false)))
 
-pub plan-kept-spec : {M : Type 1} → statement M
-plan-kept-spec =
+pub plan_kept_spec : {M : Type 1} → statement M
+plan_kept_spec =
     tie.close
     (tie.spec
     (λ c κs. search rules)

@@ -10,8 +10,8 @@ invariant-loop k last₀ left₀ last left = left ≡ left
 abbrev decreases-loop : tie.decreases-loop
 decreases-loop k last₀ left₀ last left = left
 
-pub steps-spec : {M : Type 1} → statement M
-steps-spec =
+pub steps_spec : {M : Type 1} → statement M
+steps_spec =
     tie.close
     (tie.spec
     invariant-loop

@@ -1,5 +1,5 @@
 -- `put_answer` meets its contract. Assumes nothing.
-use Rattle.rig.proofs.Told.{two-numbers}
+use Rattle.rig.proofs.Told.{two_numbers}
 use borrow.Author.Rules.{rules}
 use Rattle.rig.proofs.tell.put_answer.Statement.{statement}
 use Rattle.rig.proofs.tell.put_answer.Tie as tie
@@ -11,10 +11,10 @@ returns c =
     let at-put = at_place.before.before.before.before in
     let at-put-decimal = at-put.before.before.before.before in
     let at-number = at-put-decimal.before in
-    two-numbers _ _ _ at-put-decimal.put-decimal.ensures at-put.put.ensures at-put-decimal2.put-decimal2.ensures at-number.number.ensures at_place.place.ensures
+    two_numbers _ _ _ at-put-decimal.put-decimal.ensures at-put.put.ensures at-put-decimal2.put-decimal2.ensures at-number.number.ensures at_place.place.ensures
 
-pub put-answer-spec : {M : Type 1} → statement M
-put-answer-spec =
+pub put_answer_spec : {M : Type 1} → statement M
+put_answer_spec =
     tie.close
     (tie.spec
     (λ c κs. search rules)

@@ -4,27 +4,27 @@ use Prim.Native.Nat.{ℕ}
 use mathlib.Core.List.{List}
 use mathlib.Core.Path.{◌≡◌, ap, ◌∙◌}
 use Rattle.rules.specs.Records.{End}
-use Rattle.rules.specs.Reading.{Section, tasksIn, signalsIn, gridFrom, gridIn}
+use Rattle.rules.specs.Reading.{Section, tasks_in, signals_in, grid_from, grid_in}
 use Rattle.rules.specs.declared.Tasks.{Tasks}
 use Rattle.rules.specs.declared.Signals.{Signals}
-use Rattle.records.specs.Said.{endSaid}
+use Rattle.records.specs.Said.{end_said}
 use Rattle.sections.proofs.grid.read_grid.Statement.{statement}
 use Rattle.sections.proofs.grid.read_grid.Tie as tie
 
-whole : (bytes : List ℕ) (t : Section Tasks) (s : Section Signals) {e : End} → t ≡ tasksIn bytes → s ≡ signalsIn bytes t.end → s.end ≡ e →
-    gridFrom bytes t.read.count s.read.count e ≡ gridIn bytes
-unfolding gridIn
+whole : (bytes : List ℕ) (t : Section Tasks) (s : Section Signals) {e : End} → t ≡ tasks_in bytes → s ≡ signals_in bytes t.end → s.end ≡ e →
+    grid_from bytes t.read.count s.read.count e ≡ grid_in bytes
+unfolding grid_in
 whole bytes t s ht hs he = cc
 
 returns : tie.Need-returns
-returns c = c.grid-from.ensures ∙ whole _ _ _ c.before.before.before.before.before.read-tasks.ensures.0 c.before.before.before.before.read-signals.ensures.0 (ap endSaid c.before.before.signals-end.given.1)
+returns c = c.grid-from.ensures ∙ whole _ _ _ c.before.before.before.before.before.read-tasks.ensures.0 c.before.before.before.before.read-signals.ensures.0 (ap end_said c.before.before.signals_end.given.1)
 
 returns-2 : tie.Need-returns-2
-unfolding gridFrom
-returns-2 c = whole _ _ _ c.before.before.before.read-tasks.ensures.0 c.before.before.read-signals.ensures.0 (ap endSaid c.enum_told.given.1)
+unfolding grid_from
+returns-2 c = whole _ _ _ c.before.before.before.read-tasks.ensures.0 c.before.before.read-signals.ensures.0 (ap end_said c.enum_told.given.1)
 
-pub read-grid-spec : {M : Type 1} → statement M
-read-grid-spec =
+pub read_grid_spec : {M : Type 1} → statement M
+read_grid_spec =
     tie.close
     (tie.spec
     (λ c κs. search rules)

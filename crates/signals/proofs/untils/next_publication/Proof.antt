@@ -3,20 +3,20 @@ use mathlib.Core.Logic.{⊎_elim, inl, inr}
 use Prim.Native.Nat.{◌-◌, ◌≤◌}
 use native.Mathlib.Omega.{arith}
 use borrow.Author.Rules.{rules}
-use Rattle.rules.specs.Reading.{writesIn}
-use Rattle.signals.specs.Forms.{nextBelow, next_of}
-use Rattle.signals.proofs.Passes.{pass-none, pass-turn}
+use Rattle.rules.specs.Reading.{writes_in}
+use Rattle.signals.specs.Forms.{next_below, next_of}
+use Rattle.signals.proofs.Passes.{pass_none, pass_turn}
 use Rattle.signals.proofs.untils.next_publication.Statement.{statement}
 use Rattle.signals.proofs.untils.next_publication.Tie as tie
 
 abbrev invariant-loop : tie.invariant-loop
-invariant-loop grid signal hyper tick tasks next₀ k₀ next k = (k ≤ tasks.count) × (next ≡ nextBelow tasks (writesIn grid signal) hyper tick k)
+invariant-loop grid signal hyper tick tasks next₀ k₀ next k = (k ≤ tasks.count) × (next ≡ next_below tasks (writes_in grid signal) hyper tick k)
 
 abbrev decreases-loop : tie.decreases-loop
 decreases-loop grid signal hyper tick tasks next₀ k₀ next k = tasks.count - k
 
 loop-holds : tie.Need-loop-init invariant-loop decreases-loop
-loop-holds c = (search rules, pass-none _ _ _)
+loop-holds c = (search rules, pass_none _ _ _)
 
 next-closing-requires : tie.Need-next-closing-requires invariant-loop decreases-loop
 next-closing-requires c κs =
@@ -27,7 +27,7 @@ loop-again : tie.Need-loop-preserved invariant-loop decreases-loop
 loop-again c =
     let said = sym c.before.writes.ensures in (
       omega arith,
-      pass-turn _ _ _ _ c.before.before.before.loop.invariant.1
+      pass_turn _ _ _ _ c.before.before.before.loop.invariant.1
           (⊎_elim (λ w. inl (said ∙ w.0.taken, w.3 ∙ w.2.ensures)) (λ w. inr (said ∙ w.0.left, w.1)) c.if1.branch),
     )
 
@@ -37,8 +37,8 @@ returns c =
     let e : c.before.loop.k ≡ c.before.before.args.t1.count = omega arith in
     rw e at c.before.loop.invariant.1
 
-pub next-publication-spec : {M : Type 1} → statement M
-next-publication-spec =
+pub next_publication_spec : {M : Type 1} → statement M
+next_publication_spec =
     tie.close
     (tie.spec
     invariant-loop

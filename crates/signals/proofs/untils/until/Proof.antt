@@ -5,16 +5,16 @@ use native.Mathlib.Nat.{le_trans}
 use native.Mathlib.Omega.{arith}
 use borrow.Author.Rules.{rules}
 use Rattle.rules.specs.Table.{longest}
-use Rattle.rules.specs.Reading.{readsIn}
-use Rattle.signals.specs.Forms.{reachBelow}
-use Rattle.signals.proofs.Lives.{next-within, until-reached}
-use Rattle.signals.proofs.Passes.{pass-none, pass-turn}
+use Rattle.rules.specs.Reading.{reads_in}
+use Rattle.signals.specs.Forms.{reach_below}
+use Rattle.signals.proofs.Lives.{next_within, until_reached}
+use Rattle.signals.proofs.Passes.{pass_none, pass_turn}
 use Rattle.signals.proofs.untils.until.Statement.{statement}
 use Rattle.signals.proofs.untils.until.Tie as tie
 
 abbrev invariant-loop : tie.invariant-loop
 invariant-loop grid signal hyper published tasks next reached₀ k₀ reached k =
-    (k ≤ tasks.count) × (reached ≡ reachBelow tasks (readsIn grid signal) published next k) × (next ≤ longest)
+    (k ≤ tasks.count) × (reached ≡ reach_below tasks (reads_in grid signal) published next k) × (next ≤ longest)
 
 abbrev decreases-loop : tie.decreases-loop
 decreases-loop grid signal hyper published tasks next reached₀ k₀ reached k = tasks.count - k
@@ -24,7 +24,7 @@ next-publication-requires c κs = (c.requires.0, c.requires.1, c.requires.2, c.r
 
 loop-holds : tie.Need-loop-init invariant-loop decreases-loop
 loop-holds c =
-    (search rules, pass-none _ _ _, le_trans (next-within _ _ _ _ _ c.before.requires.2 c.next-publication.ensures) c.before.requires.4)
+    (search rules, pass_none _ _ _, le_trans (next_within _ _ _ _ _ c.before.requires.2 c.next-publication.ensures) c.before.requires.4)
 
 reach-requires : tie.Need-reach-requires invariant-loop decreases-loop
 reach-requires c κs =
@@ -36,7 +36,7 @@ loop-again c =
     let said = sym c.before.reads.ensures in
     let at-loop = c.before.before.before in (
       omega arith,
-      pass-turn _ _ _ _ at-loop.loop.invariant.1
+      pass_turn _ _ _ _ at-loop.loop.invariant.1
           (⊎_elim (λ w. inl (said ∙ w.0.taken, w.3 ∙ w.2.ensures)) (λ w. inr (said ∙ w.0.left, w.1)) c.if1.branch),
       at-loop.loop.invariant.2,
     )
@@ -44,10 +44,10 @@ loop-again c =
 returns : tie.Need-returns invariant-loop decreases-loop
 returns c =
     let e : c.before.loop.k ≡ c.before.before.before.args.t1.count = omega arith in
-    until-reached _ _ _ _ _ c.before.before.next-publication.ensures (rw e at c.before.loop.invariant.1)
+    until_reached _ _ _ _ _ c.before.before.next-publication.ensures (rw e at c.before.loop.invariant.1)
 
-pub until-spec : {M : Type 1} → statement M
-until-spec =
+pub until_spec : {M : Type 1} → statement M
+until_spec =
     tie.close
     (tie.spec
     invariant-loop

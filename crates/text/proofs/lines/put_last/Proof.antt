@@ -7,5 +7,5 @@ use Rattle.text.proofs.lines.put_last.Tie as tie
 returns : tie.Need-returns
 returns c = fed _ _ c.before.before.before.before.before.before.put-named.ensures c.before.before.put.ensures
 
-pub put-last-spec : {M : Type 1} → statement M
-put-last-spec = tie.close (tie.spec (λ c κs. search rules) (λ c κs. search rules) (λ c. search rules) returns)
+pub put_last_spec : {M : Type 1} → statement M
+put_last_spec = tie.close (tie.spec (λ c κs. search rules) (λ c κs. search rules) (λ c. search rules) returns)

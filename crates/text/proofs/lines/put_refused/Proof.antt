@@ -12,8 +12,8 @@ returns c =
     let at-number = at-put-named.before in
     led _ _ _ (rw at-number.number.ensures at at-put-named.put-named.ensures) (rw at_place.place.ensures at at-put-last.put_last.ensures)
 
-pub put-refused-spec : {M : Type 1} → statement M
-put-refused-spec =
+pub put_refused_spec : {M : Type 1} → statement M
+put_refused_spec =
     tie.close
     (tie.spec
     (λ c. search rules)

@@ -10,8 +10,8 @@ returns c =
     let at-put-named = at-put-last.before.before.before.before.before in
     led _ _ _ at-put-named.put-named.ensures at-put-last.put_last.ensures
 
-pub put-signal-spec : {M : Type 1} → statement M
-put-signal-spec =
+pub put_signal_spec : {M : Type 1} → statement M
+put_signal_spec =
     tie.close
     (tie.spec
     (λ c. search rules)

@@ -11,8 +11,8 @@ returns c =
     let at-put-named = at-put-named2.before.before.before.before.before in
     led _ _ _ (joined _ _ _ at-put-named.put-named.ensures at-put-named2.put-named2.ensures) at-put-last.put_last.ensures
 
-pub put-use-spec : {M : Type 1} → statement M
-put-use-spec =
+pub put_use_spec : {M : Type 1} → statement M
+put_use_spec =
     tie.close
     (tie.spec
     (λ c κs. search rules)

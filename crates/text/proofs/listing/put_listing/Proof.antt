@@ -32,8 +32,8 @@ returns-2 c =
     let P = at-plan.plan.ensures in
     (listed _ _ at-plan.plan.result _ P (sym at-number.number.ensures ∙ at-if1.if1.false) _ at-planned.put-planned.ensures, P.1)
 
-pub put-listing-spec : {M : Type 1} → statement M
-put-listing-spec =
+pub put_listing_spec : {M : Type 1} → statement M
+put_listing_spec =
     tie.close
     (tie.spec
     (λ c κs. search rules)

@@ -6,7 +6,7 @@ use native.Mathlib.Omega.{arith}
 use lib.ListN.{length}
 use borrow.Author.Rules.{rules}
 use Rattle.rules.specs.Bytes.{Part, parts}
-use Rattle.rules.specs.Reading.{tableIn}
+use Rattle.rules.specs.Reading.{table_in}
 use Rattle.rules.specs.Listing.{text_of}
 use Rattle.console.specs.Page.{page, put_all}
 use Rattle.text.proofs.Walked.{lines_from, Left, start, headed, part_length, room, turn, end}
@@ -15,7 +15,7 @@ use Rattle.text.proofs.listing.put_planned.Tie as tie
 
 abbrev invariant-loop : tie.invariant-loop
 invariant-loop table schedule out₀ from used₀ sum₀ at₀ out used sum at =
-    (length out ≡ length out₀) × ((left : List Part) × Left (tableIn table) schedule (put_all (text_of (lines_from (tableIn table) (parts (tableIn table)))) (page out₀ used₀)) left out used sum at)
+    (length out ≡ length out₀) × ((left : List Part) × Left (table_in table) schedule (put_all (text_of (lines_from (table_in table) (parts (table_in table)))) (page out₀ used₀)) left out used sum at)
 
 abbrev decreases-loop : tie.decreases-loop
 decreases-loop table schedule out₀ from used₀ sum₀ at₀ out used sum at = length schedule - at
@@ -70,8 +70,8 @@ returns c =
     let at-hyper = at-loop.before.before.before in
     at-total.put-total.ensures ∙ end at-loop.loop.invariant.1.1 at_test.loop-test.false ∙ headed _ _ at-hyper.before.hyper-of.ensures at-hyper.put-hyper.ensures
 
-pub put-planned-spec : {M : Type 1} → statement M
-put-planned-spec =
+pub put_planned_spec : {M : Type 1} → statement M
+put_planned_spec =
     tie.close
     (tie.spec
     invariant-loop

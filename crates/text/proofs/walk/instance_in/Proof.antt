@@ -4,8 +4,8 @@ use borrow.Author.Rules.{rules}
 use Rattle.text.proofs.walk.instance_in.Statement.{statement}
 use Rattle.text.proofs.walk.instance_in.Tie as tie
 
-pub instance-in-spec : {M : Type 1} → statement M
-instance-in-spec =
+pub instance_in_spec : {M : Type 1} → statement M
+instance_in_spec =
     tie.close
     (tie.spec
     (λ c. search rules)

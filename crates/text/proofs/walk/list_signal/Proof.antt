@@ -8,8 +8,8 @@ use Rattle.text.proofs.walk.list_signal.Tie as tie
 returns : tie.Need-returns
 returns c = (refl, omega (arith, c.wide.ensures.0), c.before.before.before.put-signal.ensures)
 
-pub list-signal-spec : {M : Type 1} → statement M
-list-signal-spec =
+pub list_signal_spec : {M : Type 1} → statement M
+list_signal_spec =
     tie.close
     (tie.spec
     (λ c. search rules)

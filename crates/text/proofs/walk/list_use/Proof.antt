@@ -10,8 +10,8 @@ returns c =
     let at-instance = at-put-use.before.before.before.before in
     (refl, refl, rw at-instance.instance-in.ensures at at-put-use.put-use.ensures)
 
-pub list-use-spec : {M : Type 1} → statement M
-list-use-spec =
+pub list_use_spec : {M : Type 1} → statement M
+list_use_spec =
     tie.close
     (tie.spec
     (λ c κs. search rules)
