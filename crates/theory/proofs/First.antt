@@ -52,10 +52,10 @@ module _ {A : Type 0} {Broken : A → Type 0} {says : A → Told} {otherwise : T
   pub lowest_rung : {t : Told} (rule : ℕ → A) (p : ℕ → Bool) (xs : List A) (n : ℕ) → ((s : ℕ) → s < n → (p s ≡ true) ↔ Broken (rule s)) → FirstBrokenElse Broken says otherwise xs t
       → FirstBrokenElse Broken says otherwise (gather n (λ s. rule s ∷ []) ++ xs) (maybe (lowest p n) t (λ s. says (rule s)))
   unfolding gather lowest when
-  lowest_rung rule p xs zero e r = r
-  lowest_rung {t} rule p xs (suc n) e r =
+  lowest_rung {t = t} rule p xs zero e r = r
+  lowest_rung {t = t} rule p xs (suc n) e r =
       rw (append_assoc (gather n (λ s. rule s ∷ [])) (rule n ∷ []) xs)
-      (subst (FirstBrokenElse Broken says otherwise _) (same (lowest p n) (p n)) (lowest_rung rule p (rule n ∷ xs) n (λ s h. e s (omega arith)) (rung (e n (omega arith)) r)))
+      (subst (FirstBrokenElse Broken says otherwise _) (same (lowest p n) (p n)) (lowest_rung {t = when (p n) (says (rule n)) t} rule p (rule n ∷ xs) n (λ s h. e s (omega arith)) (rung (e n (omega arith)) r)))
     where
       same : (o : Option ℕ) (b : Bool) → maybe o (when b (says (rule n)) t) (λ s. says (rule s)) ≡ maybe (maybe o (cond b (some n) none) some) t (λ s. says (rule s))
       same none true = refl

@@ -99,8 +99,11 @@ module _ (bytes : List ℕ) where
 
     took : {before : List Record} {p : ℕ} {Q : A → Type 0} {x : Step A} (m : Mark) (b : B) → SoFar bytes before p → Obeys bytes before p Q (p + record_size m) read_rules x
         → ((a : A) → Q a → BreaksNone bytes before p → S.Is (S.put b a) (record { mark = m; place = p } ∷ before) (p + record_size m)) → Stepped b p x
-    took {before} {p} m b r (takes {x = a} i n) f = (record { mark = m; place = p } ∷ before, f a i n)
-    took {before} {p} m b r (tells t) f = record { before = before; place = p; so_far = r; broken = t }
+    took {before = before} {p = p} {Q = Q} {x = x} m b r o f = go x o
+      where
+        go : (x : Step A) → Obeys bytes before p Q (p + record_size m) read_rules x → Stepped b p x
+        go _ (takes {x = a} i n) = (record { mark = m; place = p } ∷ before, f a i n)
+        go _ (tells t) = record { before = before; place = p; so_far = r; broken = t }
 
   -- ---- the sections of a table
 
@@ -256,7 +259,11 @@ module _ (bytes : List ℕ) where
     end_told (tells r) = refused_here r
 
     end_read : MarkAt bytes p en → EndObeys read_rules (Step.taken tt (p + 2)) → AllRead bytes
-    end_read st (takes i n) = record { before = before; place = p; so_far = R.so_far; end = st; whole = n }
+    end_read st o = go o refl
+      where
+        go : {q : ℕ} {s : Step Unit} → EndObeys read_rules s → s ≡ Step.taken tt q → AllRead bytes
+        go (takes i n) e = record { before = before; place = p; so_far = R.so_far; end = st; whole = n }
+        go (tells r) e = absurd (cc e)
 
     end_ends : Ended (end_at bytes p)
     unfolding end_at holds_at
