@@ -1,4 +1,6 @@
 // The elements of one signal in one pass over the openings and closings of a hyper-period, with one until-tick for each element.
+#![tactic(auto)]
+
 mod pass;
 mod steps;
 

@@ -1,4 +1,6 @@
 // Greatest common divisor by Euclid's rule, and the least common multiple above it.
+#![tactic(auto)]
+
 ghost use Rattle.std.specs.Prelude.{◌≡◌, ◌<◌, ◌≤◌};
 ghost use Rattle.rules.specs.Euclid.{gcd_of, lcm_of};
 ghost use Rattle.rules.specs.Table.{longest};

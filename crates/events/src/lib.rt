@@ -1,4 +1,6 @@
 // The openings and closings of a hyper-period as numbers in their order: by tick, closings before openings, then by task.
+#![tactic(auto)]
+
 ghost use Rattle.std.specs.Prelude.{◌≡◌, ◌+◌, ◌*◌, ◌<◌, ◌≤◌, length};
 ghost use Rattle.rules.specs.Windows.{hyper};
 ghost use Rattle.rules.specs.Table.{Fits, most_tasks, longest};

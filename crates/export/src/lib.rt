@@ -1,5 +1,7 @@
 // The library for firmware: document 01's functions under C names. All but press_lists_new give back the number of their answer; where the number has a
 // place that is not always 0, it goes through the last parameter. A machine is the three lists that its caller lends.
+#![tactic(auto)]
+
 ghost use Rattle.std.specs.Prelude.{◌≡◌};
 ghost use Rattle.rules.specs.Numbers.{told};
 ghost use Rattle.export.specs.Numbers.{numbered};

@@ -1,4 +1,6 @@
 // The records of a schedule: how many bytes they take, and whether lent bytes have their form.
+#![tactic(auto)]
+
 mod forms;
 mod lengths;
 mod sides;

@@ -1,4 +1,6 @@
 // The check of a schedule that was made elsewhere: its table, then the verdict with that table.
+#![tactic(auto)]
+
 ghost use Rattle.inspect.specs.Gives.{CheckGives};
 
 use answers::{DONE, number};

@@ -1,4 +1,6 @@
 // The listing program: a table on standard input, its listing on standard output.
+#![tactic(auto)]
+
 use console::page::front;
 use libc::{STDIN_FILENO, STDOUT_FILENO};
 use text::{LONGEST_LISTING, LONGEST_SCHEDULE, put_listing};

@@ -1,4 +1,6 @@
 // The live list of one signal, filled into a lent list of records.
+#![tactic(auto)]
+
 mod list;
 mod values;
 mod words;

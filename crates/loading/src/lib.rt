@@ -1,4 +1,6 @@
 // The numbers and the store of a machine that is loaded: the tasks' windows, and signal by signal the accesses, the uses and the elements.
+#![tactic(auto)]
+
 ghost use Rattle.std.specs.Prelude.{◌≡◌, ℕ, ◌+◌, ◌*◌, ◌<◌, ◌≤◌, length, get_or, replicate};
 ghost use Rattle.rules.specs.Words.{times, up_to};
 ghost use Rattle.rules.specs.Table.{most_tasks, most_signals, most_uses, words};

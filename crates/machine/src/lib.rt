@@ -1,4 +1,6 @@
 // The machine that runs a table with a schedule tick by tick. After loading it needs neither of them again.
+#![tactic(auto)]
+
 pub mod lists;
 
 ghost use Rattle.machine.specs.Load.{Loads};

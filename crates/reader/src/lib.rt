@@ -1,5 +1,7 @@
 // The reader: one value that keeps the lent table bytes and its own place in them. The methods of the place do the work;
 // the functions over the reader are thin, and those of plain parameters serve the sections and every other caller.
+#![tactic(auto)]
+
 ghost use Rattle.records.specs.Gives.{TaskGives, SignalGives, AccessGives, EndGives};
 ghost use Rattle.reader.specs.Gives.{ReaderGives};
 

@@ -1,5 +1,7 @@
 // One record at a cursor: the record with the cursor moved on, or another mark, or a refusal with its place.
 // Each method makes the paper's tests in the paper's order.
+#![tactic(auto)]
+
 ghost use Rattle.std.specs.Prelude.{◌≡◌, ◌+◌, ◌≤◌, length};
 ghost use Rattle.rules.specs.Table.{windowed};
 ghost use Rattle.rules.specs.Records.{task_in, right_at, access_in, key_of};

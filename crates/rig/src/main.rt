@@ -1,4 +1,6 @@
 // The bench console: commands on standard input, one to a line, and an answer to each on standard output.
+#![tactic(auto)]
+
 mod bench;
 mod checking;
 mod dispatch;

@@ -1,4 +1,6 @@
 // A schedule written from its counts and elements, record by record at the front of a lent buffer.
+#![tactic(auto)]
+
 ghost use Rattle.std.specs.Prelude.{◌≡◌, List, ◌++◌, ℕ, ◌<◌, ◌≤◌, ◌*◌, ◌+◌, length, get_or, drop};
 ghost use Rattle.std.proofs.lemmas.List.Edits.{sets};
 ghost use Rattle.rules.specs.Table.{most_tasks, most_signals, most_uses, longest};

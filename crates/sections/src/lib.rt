@@ -1,4 +1,6 @@
 // The sections of a table: each reads records of its kind from where the one before ended, and stops at another mark or at a refusal.
+#![tactic(auto)]
+
 pub mod grid;
 
 ghost use Rattle.std.specs.Prelude.{◌≡◌, ◌≤◌};

@@ -1,4 +1,6 @@
 // What the tasks of one signal publish: the value that stands at a tick, the next publication, and until when a value is live; each in one pass over the tasks.
+#![tactic(auto)]
+
 mod bindings;
 mod rights;
 mod untils;

@@ -1,4 +1,6 @@
 // The machine's numbers in one list with named parts: fitness, a task's instance at the tick, and what is done for one signal, one task, all tasks.
+#![tactic(auto)]
+
 ghost use Rattle.std.specs.Prelude.{◌≡◌, ◌||◌, ℕ, ◌+◌, ◌<◌, ◌≤◌, leb, eqb};
 ghost use Rattle.rules.specs.Table.{most_tasks, most_signals, most_uses};
 ghost use Rattle.rules.specs.Words.{up_to};

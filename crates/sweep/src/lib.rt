@@ -1,4 +1,6 @@
 // The check of one signal's elements in one pass over the openings and closings of the hyper-period.
+#![tactic(auto)]
+
 ghost use Rattle.std.specs.Prelude.{suc, ◌*◌, ◌-◌, ◌<◌, ◌≤◌, ◌≡◌};
 ghost use Rattle.sweep.specs.Pass.{pass_of, element_at, Inside, TurnFits, Reads, IsRead, Writes, wrote_of, closed_of, Handles, handled_of, grid_table, Inspects, records_of, farthest, longest_bytes, IsRow, ArePlaces, InspectsAll, all_swept, AreActs};
 ghost use Rattle.rules.specs.Words.{total};

@@ -1,4 +1,6 @@
 // A table's bytes read: the records, then rules 7 to 11 on the table as a whole.
+#![tactic(auto)]
+
 mod apart;
 mod judging;
 mod reading;

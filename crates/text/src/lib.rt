@@ -1,4 +1,6 @@
 // The listing of a table, as text on a lent page: what the listing program prints, and the bench.
+#![tactic(auto)]
+
 mod lines;
 mod listing;
 mod walk;

@@ -1,4 +1,6 @@
 // The verdict on a schedule, with a table that was read and accepted: its form, then its elements.
+#![tactic(auto)]
+
 ghost use Rattle.std.specs.Prelude.{◌≡◌, eqb};
 ghost use Rattle.rules.specs.Numbers.{told, all_done};
 ghost use Rattle.rules.specs.Answers.{check_says};

@@ -1,4 +1,6 @@
 // Windows of one task in closed form: which instance closes or opens last, which closes next; and the hyper-period of all tasks.
+#![tactic(auto)]
+
 ghost use Rattle.std.specs.Prelude.{◌≡◌, ◌<◌, ◌≤◌};
 ghost use Rattle.rules.specs.Table.{longest, most_tasks};
 ghost use Rattle.windows.specs.Windowed.{Windowed, AllWindowed};

@@ -1,0 +1,5 @@
+-- The second number falls: a remainder is below what it was taken by.
+use Rattle.euclid.proofs.+gcd.Given as goal
+
+abbrev pub decreases-gcd : goal.decreases-gcd
+decreases-gcd l = l.b
