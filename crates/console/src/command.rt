@@ -6,7 +6,7 @@ use crate::digits::{Numeral, is_hex, number};
 use crate::words::{SPACE, after_word, first_word, marks, same};
 
 // The bytes of `Table`, `Check` and `Load` are the line's second word.
-#[derive(Drop)]
+#[derive(Clone, Copy)]
 pub enum Command {
     Bad,
     Table,

@@ -7,7 +7,7 @@ use crate::bases::{SIXTEEN, TEN, WIDE_TEN};
 use crate::page::{DASH, put};
 use crate::words::same;
 
-#[derive(Drop)]
+#[derive(Clone, Copy)]
 pub enum Numeral {
     Value(u64),
     Bad,

@@ -14,7 +14,7 @@ pub const LAST: usize = rules::MOST_ELEMENTS - 1;
 pub const NEVER: u32 = rules::LONGEST;
 
 // The element of the value that stands, the last closing of the readers sent to it, and one more than the highest element taken.
-#[derive(Drop)]
+#[derive(Clone, Copy)]
 pub struct Standing {
     pub element: usize,
     pub reach: u32,

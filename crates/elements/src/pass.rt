@@ -12,14 +12,14 @@ use rules::{CARRIED_ELEMENT, MOST_ELEMENTS, MOST_SIGNALS, MOST_TASKS, MOST_USES,
 use signals::{reads, writes};
 
 // The numbers of each task's first uses of a signal, as a writer and as a reader.
-#[derive(Drop)]
+#[derive(Clone, Copy)]
 pub struct Numbers {
     pub writers: [usize; MOST_TASKS],
     pub readers: [usize; MOST_TASKS],
 }
 
 // The rights of a task to the signal, and the numbers of its first uses.
-#[derive(Drop)]
+#[derive(Clone, Copy)]
 pub struct Access {
     pub reads: bool,
     pub writes: bool,

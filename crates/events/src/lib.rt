@@ -18,7 +18,7 @@ pub const KIND: u32 = MOST_TASKS as u32;
 pub const TICK: u32 = 2 * KIND;
 
 // The first `count` places are in use.
-#[derive(Drop)]
+#[derive(Clone, Copy)]
 pub struct Events {
     pub list: [u32; MOST_EVENTS],
     pub count: usize,
@@ -61,7 +61,7 @@ fn following(task: Task, event: u32) -> u32
 // The task that is next.
 fn least(next: &[u32; MOST_TASKS], count: usize) -> usize
     requires { (1 ≤ count) × (count ≤ most_tasks) }
-    ensures* { do ⌜ Leads next.now count result ⌝ }
+    ensures { Leads next.now count result }
 {
     let mut best: usize = 0;
     let mut k: usize = 1;

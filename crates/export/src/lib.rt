@@ -44,7 +44,7 @@ pub extern "C" fn press_check(table: &[u8], schedule: &[u8], place: &mut usize) 
 }
 
 // The number and the place of an answer.
-#[derive(Drop)]
+#[derive(Clone, Copy)]
 pub struct Numbered {
     pub number: u8,
     pub place: usize,

@@ -9,14 +9,14 @@ mod untils;
 pub use search::first_fault;
 
 // Where the first wrong record starts.
-#[derive(Drop)]
+#[derive(Clone, Copy)]
 pub enum Fault {
     At(usize),
     Nowhere,
 }
 
 // What is looked at for one signal: the table, the signal, and where its elements stand.
-#[derive(Drop)]
+#[derive(Clone, Copy)]
 pub struct View {
     pub tasks: rules::Tasks,
     pub signals: rules::Signals,

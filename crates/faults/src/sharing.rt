@@ -13,7 +13,7 @@ use rules::{CARRIED_ELEMENT, MOST_SIGNALS, MOST_TASKS, MOST_VALUES};
 use sweep::element_at;
 
 // The element of a value, and its life.
-#[derive(Drop)]
+#[derive(Clone, Copy)]
 pub struct Held {
     pub element: usize,
     pub from: u32,

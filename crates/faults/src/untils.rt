@@ -15,7 +15,7 @@ use signals::until;
 pub const CARRIED_AT: usize = MOST_INSTANCES as usize;
 
 // The WI of one task: where the element of the first stands, which number it has among those of the signal, and when it opens.
-#[derive(Drop)]
+#[derive(Clone, Copy)]
 pub struct Writer {
     pub first: usize,
     pub number: usize,

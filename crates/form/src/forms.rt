@@ -20,14 +20,14 @@ use rules::{
 const MOST_COUNT: u8 = MOST_ELEMENTS as u8;
 
 // Where the next record starts, the count of the signal it belongs to, and the sum of the counts so far.
-#[derive(Drop)]
+#[derive(Clone, Copy)]
 pub struct Place {
     pub at: usize,
     pub count: u8,
     pub sum: usize,
 }
 
-#[derive(Drop)]
+#[derive(Clone, Copy)]
 pub enum Walk {
     Next(Place),
     Wrong(Answer),

@@ -6,7 +6,7 @@ ghost use Rattle.form.specs.Records.{mark_of, permits, users_of, Instances};
 
 use rules::{MOST_SIGNALS, MOST_TASKS, RI, Tasks, WI};
 
-#[derive(Drop)]
+#[derive(Clone, Copy)]
 pub enum Side {
     Writers,
     Readers,

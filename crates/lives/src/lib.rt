@@ -12,7 +12,7 @@ pub const CARRIED: u8 = rules::CARRIED as u8;
 
 // A value of the signal: the instance that writes it, the ticks of its life, the last excluded, and its planned element.
 #[repr(C)]
-#[derive(Drop)]
+#[derive(Clone, Copy)]
 pub struct LiveValue {
     pub task: u8,
     pub instance: u16,
@@ -22,7 +22,7 @@ pub struct LiveValue {
 }
 
 // What is answered, and the values to fill in: the first `count` places are in use, none where it is refused.
-#[derive(Drop)]
+#[derive(Clone, Copy)]
 pub struct Lives {
     pub answer: rules::Answer,
     pub values: [LiveValue; rules::MOST_VALUES],

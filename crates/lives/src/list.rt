@@ -15,7 +15,7 @@ use sections::grid::read_grid;
 use table::read_table;
 
 // An answer with the list that it filled.
-#[derive(Drop)]
+#[derive(Clone, Copy)]
 pub struct Lived {
     pub answer: Answer,
     pub values: [LiveValue; MOST_LENT],

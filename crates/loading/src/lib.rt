@@ -21,7 +21,7 @@ use state::{
 const ACCESSES: usize = CELLS + CELLS;
 
 // How many uses and elements stand before what is loaded next.
-#[derive(Drop)]
+#[derive(Clone, Copy)]
 pub struct Filled {
     pub used: usize,
     pub base: usize,

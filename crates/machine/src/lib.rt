@@ -9,7 +9,7 @@ ghost use Rattle.machine.specs.Gives.{NewGives, StepGives, ReadGives, WriteGives
 use rules::{Answer, MOST_SIGNALS, WORDS};
 use state::NUMBERS;
 
-#[derive(Drop)]
+#[derive(Clone, Copy)]
 pub struct Machine {
     // Crate `state` names the parts.
     pub numbers: [u16; NUMBERS],
@@ -17,21 +17,21 @@ pub struct Machine {
     pub store: [u32; WORDS],
 }
 
-#[derive(Drop)]
+#[derive(Clone, Copy)]
 pub struct Stepped {
     pub answer: Answer,
     pub machine: Machine,
 }
 
 // A refused read has word 0.
-#[derive(Drop)]
+#[derive(Clone, Copy)]
 pub struct WordRead {
     pub answer: Answer,
     pub word: u32,
 }
 
 // A refusal has instance 0.
-#[derive(Drop)]
+#[derive(Clone, Copy)]
 pub struct InstanceRead {
     pub answer: Answer,
     pub instance: u16,

@@ -11,14 +11,14 @@ use form::{Side, instances_of, users};
 use rules::{MOST_SIGNALS, MOST_TASKS, MOST_USES, Tasks};
 
 // The number of each task's first use on one side of a signal, and the number that follows them all.
-#[derive(Drop)]
+#[derive(Clone, Copy)]
 pub struct SideNumbers {
     pub firsts: [usize; MOST_TASKS],
     pub end: usize,
 }
 
 // The numbers of a signal's uses, and the number that follows them.
-#[derive(Drop)]
+#[derive(Clone, Copy)]
 pub struct Laid {
     pub numbers: Numbers,
     pub end: usize,

@@ -8,7 +8,7 @@ ghost use Rattle.reader.specs.Gives.{ReaderGives};
 use records::{AccessStep, Cursor, Ending, SignalStep, TaskStep};
 use rules::Access;
 
-#[derive(Drop)]
+#[derive(Clone, Copy)]
 pub struct Reader<'a> {
     pub table: &'a [u8],
     pub place: Cursor,

@@ -21,12 +21,12 @@ const SIGNAL_BYTES: usize = 6;
 const ACCESS_BYTES: usize = 4;
 
 // The reader's place in the table's bytes.
-#[derive(Drop)]
+#[derive(Clone, Copy)]
 pub struct Cursor {
     pub at: usize,
 }
 
-#[derive(Drop)]
+#[derive(Clone, Copy)]
 pub enum TaskStep {
     Taken(Task, Cursor),
     Other,
@@ -34,14 +34,14 @@ pub enum TaskStep {
 }
 
 // A signal's record holds its default.
-#[derive(Drop)]
+#[derive(Clone, Copy)]
 pub enum SignalStep {
     Taken(u32, Cursor),
     Other,
     Refused(Answer),
 }
 
-#[derive(Drop)]
+#[derive(Clone, Copy)]
 pub enum AccessStep {
     Taken(Access, Cursor),
     Other,
@@ -49,7 +49,7 @@ pub enum AccessStep {
 }
 
 // How a section ends: at the cursor of the next one, or refused.
-#[derive(Drop)]
+#[derive(Clone, Copy)]
 pub enum Ending {
     At(Cursor),
     Refused(Answer),

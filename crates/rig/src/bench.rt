@@ -9,7 +9,7 @@ pub const MOST_BYTES: usize = LONGEST / 2;
 // No answer is longer than half of it: a listing has some 100,000 characters.
 pub const OUTPUT: usize = 262144;
 
-#[derive(Drop)]
+#[derive(Clone, Copy)]
 pub struct Bench {
     // Characters of the line so far.
     pub held: usize,

@@ -15,19 +15,19 @@ use records::{AccessStep, Cursor, Ending, SignalStep, TaskStep};
 use rules::{Access, Accesses, MOST_SIGNALS, MOST_TASKS, Signals, Task, Tasks};
 
 // What was read, also before a refusal, and how the section ends.
-#[derive(Drop)]
+#[derive(Clone, Copy)]
 pub struct TasksRead {
     pub tasks: Tasks,
     pub end: Ending,
 }
 
-#[derive(Drop)]
+#[derive(Clone, Copy)]
 pub struct SignalsRead {
     pub signals: Signals,
     pub end: Ending,
 }
 
-#[derive(Drop)]
+#[derive(Clone, Copy)]
 pub struct AccessesRead {
     pub accesses: Accesses,
     pub end: Ending,

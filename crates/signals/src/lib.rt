@@ -10,7 +10,7 @@ pub use rights::{reads, writes};
 pub use untils::{next_publication, until};
 
 // When a value was published, and by which instance of which task. The carried one stands from tick 0 on.
-#[derive(Drop)]
+#[derive(Clone, Copy)]
 pub struct Publication {
     pub tick: u32,
     pub task: usize,

@@ -56,14 +56,14 @@ const BLOCK: u16 = WORDS as u16;
 const MOST_COUNT: u16 = MOST_USES as u16;
 
 // A task's instance, where there is one.
-#[derive(Drop)]
+#[derive(Clone, Copy)]
 pub enum Instance {
     At(u16),
     Nothing,
 }
 
 // Where a task finds a signal now: at a position of the store, or why nowhere.
-#[derive(Drop)]
+#[derive(Clone, Copy)]
 pub enum Place {
     At(u16),
     NoAccess,

@@ -21,7 +21,7 @@ pub const KINDS: usize = TICK as usize;
 
 // What the pass keeps beside the until-ticks: the element of the value that stands; the last closing of the readers that opened
 // since it was published; whether no mistake was met.
-#[derive(Drop)]
+#[derive(Clone, Copy)]
 pub struct Standing {
     pub current: usize,
     pub reach: u32,
@@ -29,28 +29,28 @@ pub struct Standing {
 }
 
 // Where the element of the first instance of each task stands, as a reader and as a writer of the signal.
-#[derive(Drop)]
+#[derive(Clone, Copy)]
 pub struct Places {
     pub readers: [usize; MOST_TASKS],
     pub writers: [usize; MOST_TASKS],
 }
 
 // The places of the readers, or of the writers, and where the records after them begin.
-#[derive(Drop)]
+#[derive(Clone, Copy)]
 pub struct Row {
     pub at: [usize; MOST_TASKS],
     pub end: usize,
 }
 
 // The places of a signal, and where the next signal's records begin.
-#[derive(Drop)]
+#[derive(Clone, Copy)]
 pub struct Located {
     pub places: Places,
     pub end: usize,
 }
 
 // An opening or closing of a task: its cell of the grid, the tick, and the task's places.
-#[derive(Drop)]
+#[derive(Clone, Copy)]
 pub struct Turn {
     pub cell: u8,
     pub tick: u32,

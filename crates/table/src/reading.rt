@@ -8,7 +8,7 @@ use sections::grid::read_grid;
 use sections::{read_accesses, read_end, read_signals, read_tasks};
 
 // The answer, what was read before a refusal too, and the hyper-period of a table that is accepted, else 0.
-#[derive(Drop)]
+#[derive(Clone, Copy)]
 pub struct TableRead {
     pub answer: Answer,
     pub tasks: Tasks,

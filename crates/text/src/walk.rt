@@ -14,7 +14,7 @@ const WRITE: [u8; 6] = *b"write ";
 const READ: [u8; 5] = *b"read ";
 
 // The bytes of the record, its count if it is a signal's, and how much of the page is in use after its line.
-#[derive(Drop)]
+#[derive(Clone, Copy)]
 pub struct Listed {
     pub size: usize,
     pub count: u64,

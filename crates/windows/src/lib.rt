@@ -9,14 +9,14 @@ ghost use Rattle.windows.specs.Forms.{last_closed, next_closing, last_opened, hy
 use rules::{Task, Tasks};
 
 // The number of an instance, or none.
-#[derive(Drop)]
+#[derive(Clone, Copy)]
 pub enum Found {
     At(u32),
     Nothing,
 }
 
 // The hyper-period in ticks, where it is not above the longest.
-#[derive(Drop)]
+#[derive(Clone, Copy)]
 pub enum Hyper {
     Ticks(u32),
     Above,

@@ -1,0 +1,36 @@
+-- `events::least` meets its contract. The loop's invariant: `best` leads the first k. Assumes nothing.
+use Prim.Native.Nat.{◌-◌, ◌≤◌}
+use mathlib.Core.Path.{◌≡◌}
+use mathlib.Core.Logic.{⊎_elim, inl, inr}
+use native.Mathlib.Omega.{arith}
+use Rattle.events.specs.Order.{Leads}
+use Rattle.events.proofs.Merged.{leads_one, leads_more}
+use Rattle.events.proofs.least.Goals as goal
+
+pub loop-k-init : goal.loop-k-init
+loop-k-init c = (omega arith, omega arith, leads_one _)
+
+pub offset_bounds-next-k : goal.offset_bounds-next-k
+offset_bounds-next-k c = omega arith
+
+pub bounds-next-k : goal.bounds-next-k
+bounds-next-k c = omega arith
+
+pub offset_bounds-next-best : goal.offset_bounds-next-best
+offset_bounds-next-best c = omega arith
+
+pub bounds-next-best : goal.bounds-next-best
+bounds-next-best c = omega (arith, c.loop-k.invariant.2.one)
+
+pub overflow_add-k : goal.overflow_add-k
+overflow_add-k c = omega arith
+
+pub loop-k-smaller : goal.loop-k-smaller
+loop-k-smaller c = omega arith
+
+pub loop-k-preserved : goal.loop-k-preserved
+loop-k-preserved c = (omega arith, omega arith, leads_more _ _ _ _ c.loop-k.invariant.2 (⊎_elim (λ w. inl (w.0.taken, w.1)) (λ w. inr (w.0.left, w.1)) c.if-next-k.branch))
+
+pub returns : goal.returns
+returns c = let e : c.loop-k.k ≡ c.args.count = omega arith in
+    rw e at c.loop-k.invariant.2

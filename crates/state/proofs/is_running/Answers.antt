@@ -1,0 +1,6 @@
+-- The tests one after the other.
+use borrow.Author.Rules.{rules}
+use Rattle.state.proofs.is_running.Goals as goal
+
+pub returns : goal.returns
+returns c = cc

@@ -1,0 +1,7 @@
+-- The instance of the period that the tick lies in.
+use borrow.Author.Rules.{rules}
+use mathlib.Core.Path.{◌∙◌}
+use Rattle.state.proofs.now_if.Goals as goal
+
+pub returns : goal.returns
+returns c = c.instance_if.ensures ∙ rw (c.instances.ensures, c.period.ensures)

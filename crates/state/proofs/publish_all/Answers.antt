@@ -1,0 +1,22 @@
+-- A loop that acts.
+use native.Mathlib.Omega.{arith}
+use borrow.Author.Rules.{rules}
+use mathlib.Core.Path.{◌≡◌}
+use Prim.Native.Nat.{◌-◌, ◌≤◌}
+use Rattle.rules.specs.Table.{most_tasks}
+use Rattle.rules.specs.Words.{up_to}
+use Rattle.state.specs.Rows.{closing_of, publish_one, at_instance, published}
+use Rattle.state.proofs.Folds.{acted_none, acted_turn, acted_end}
+use Rattle.state.proofs.publish_all.Goals as goal
+
+pub loop-t-init : goal.loop-t-init
+unfolding published
+loop-t-init c = (omega arith, acted_none _ _)
+
+pub loop-t-preserved : goal.loop-t-preserved
+unfolding published
+loop-t-preserved c = (omega arith, acted_turn _ _ _ (rw (← c.closing-closes.ensures) c.publish_task.ensures) c.loop-t.invariant.1)
+
+pub returns : goal.returns
+unfolding published
+returns c = acted_end _ _ _ most_tasks c.loop-t.invariant.1 (omega arith) (omega arith)
