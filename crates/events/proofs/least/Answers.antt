@@ -1,11 +1,12 @@
 -- `events::least` meets its contract. The loop's invariant: `best` leads the first k. Assumes nothing.
 use Prim.Native.Nat.{◌-◌, ◌≤◌}
 use mathlib.Core.Path.{◌≡◌}
-use mathlib.Core.Logic.{⊎_elim, inl, inr}
+use mathlib.Core.Logic.{inl, inr}
 use native.Mathlib.Omega.{arith}
 use Rattle.events.specs.Order.{Leads}
 use Rattle.events.proofs.Merged.{leads_one, leads_more}
 use Rattle.events.proofs.least.Goals as goal
+use Rattle.events.proofs.least.Goals.{then-next-k, else-next-k}
 
 pub loop-k-init : goal.loop-k-init
 loop-k-init c = (omega arith, omega arith, leads_one _)
@@ -29,7 +30,7 @@ pub loop-k-smaller : goal.loop-k-smaller
 loop-k-smaller c = omega arith
 
 pub loop-k-preserved : goal.loop-k-preserved
-loop-k-preserved c = (omega arith, omega arith, leads_more _ _ _ _ c.loop-k.invariant.2 (⊎_elim (λ w. inl (w.0.taken, w.1)) (λ w. inr (w.0.left, w.1)) c.if-next-k.branch))
+loop-k-preserved c = (omega arith, omega arith, leads_more _ _ _ _ c.loop-k.invariant.2 (elim c.if-next-k.branch [ then-next-k w ↦ inl (w.if-next-k.true, w.best-is) | else-next-k w ↦ inr (w.if-next-k.false, w.best-is) ]))
 
 pub returns : goal.returns
 returns c = let e : c.loop-k.k ≡ c.args.count = omega arith in

@@ -35,8 +35,9 @@ returns-then-event-end c = let I = c.loop-tasks.invariant in
     merge_ends _ I.0 _ _ _ _ I.2 c.least-k.ensures (omega (arith, I.1, c.if-event-end.true))
 
 pub offset_bounds-list-count : goal.offset_bounds-list-count
-offset_bounds-list-count c = omega (arith, (let I = c.loop-tasks.invariant in
-    omega (arith, merge_room _ I.0 _ _ _ _ I.2 c.least-k.ensures (omega (arith, I.1, c.if-event-end.false)))))
+offset_bounds-list-count c =
+    let I = c.loop-tasks.invariant in
+    omega (arith, merge_room _ I.0 _ _ _ _ I.2 c.least-k.ensures (omega (arith, I.1, c.if-event-end.false)))
 
 -- one more has room, since there are two for each instance
 pub bounds-list-count : goal.bounds-list-count
@@ -44,8 +45,9 @@ bounds-list-count c = let I = c.loop-tasks.invariant in
     omega (arith, merge_room _ I.0 _ _ _ _ I.2 c.least-k.ensures (omega (arith, I.1, c.if-event-end.false)))
 
 pub overflow_add-count : goal.overflow_add-count
-overflow_add-count c = omega (arith, (let I = c.loop-tasks.invariant in
-    omega (arith, merge_room _ I.0 _ _ _ _ I.2 c.least-k.ensures (omega (arith, I.1, c.if-event-end.false)))))
+overflow_add-count c =
+    let I = c.loop-tasks.invariant in
+    omega (arith, merge_room _ I.0 _ _ _ _ I.2 c.least-k.ensures (omega (arith, I.1, c.if-event-end.false)))
 
 pub offset_bounds-tasks-k : goal.offset_bounds-tasks-k
 offset_bounds-tasks-k c = omega arith
@@ -65,8 +67,9 @@ pub bounds-next-k-in-loop-tasks : goal.bounds-next-k-in-loop-tasks
 bounds-next-k-in-loop-tasks c = omega (arith, c.least-k.ensures.one, c.loop-tasks.invariant.0.few_tasks)
 
 pub loop-tasks-smaller : goal.loop-tasks-smaller
-loop-tasks-smaller c = omega (arith, (let I = c.loop-tasks.invariant in
-    omega (arith, merge_room _ I.0 _ _ _ _ I.2 c.least-k.ensures (omega (arith, I.1, c.if-event-end.false)))))
+loop-tasks-smaller c =
+    let I = c.loop-tasks.invariant in
+    omega (arith, merge_room _ I.0 _ _ _ _ I.2 c.least-k.ensures (omega (arith, I.1, c.if-event-end.false)))
 
 pub loop-tasks-preserved : goal.loop-tasks-preserved
 loop-tasks-preserved c = let I = c.loop-tasks.invariant in

@@ -28,18 +28,21 @@ access_in-access-requires c = (omega (arith, (room _ _ _ (granted c.holds.ensure
 
 pub returns-then-tasks-wide : goal.returns-then-tasks-wide
 unfolding access_at access_in
-returns-then-tasks-wide c = let h : c.args.tasks ≤ ((access_in c.args.bytes.now (c@Start).args.self.at)).task = omega (arith, ap (λ (x : Access). x.task) c.access_in-access.ensures) in
+returns-then-tasks-wide c = let h : c.args.tasks ≤ (access_in c.args.bytes.now c.args.self.at).task = omega (arith, ap (λ (x : Access). x.task) c.access_in-access.ensures) in
     search ladder depth 9
 
 pub returns-then-signals-wide : goal.returns-then-signals-wide
 unfolding access_at access_in
-returns-then-signals-wide c = let h : c.args.signals ≤ ((access_in c.args.bytes.now (c@Start).args.self.at)).signal = omega (arith, ap (λ (x : Access). x.signal) c.access_in-access.ensures) in
-    search (ladder, (omega (arith, ap (λ (x : Access). x.task) c.access_in-access.ensures))) depth 9
+returns-then-signals-wide c = let h : c.args.signals ≤ (access_in c.args.bytes.now c.args.self.at).signal = omega (arith, ap (λ (x : Access). x.signal) c.access_in-access.ensures) in
+    let known_task : (access_in c.args.bytes.now c.args.self.at).task < c.args.tasks = omega (arith, ap (λ (x : Access). x.task) c.access_in-access.ensures) in
+    search (ladder, known_task) depth 9
 
 pub returns-then-key : goal.returns-then-key
 unfolding access_at access_in
-returns-then-key c = let h : key_of ((access_in c.args.bytes.now (c@Start).args.self.at)) ≤ key_of c.args.last = omega (arith, ap key_of c.access_in-access.ensures) in
-    search (ladder, (omega (arith, ap (λ (x : Access). x.task) c.access_in-access.ensures)), (omega (arith, ap (λ (x : Access). x.signal) c.access_in-access.ensures))) depth 9
+returns-then-key c = let h : key_of (access_in c.args.bytes.now c.args.self.at) ≤ key_of c.args.last = omega (arith, ap key_of c.access_in-access.ensures) in
+    let known_task : (access_in c.args.bytes.now c.args.self.at).task < c.args.tasks = omega (arith, ap (λ (x : Access). x.task) c.access_in-access.ensures) in
+    let known_signal : (access_in c.args.bytes.now c.args.self.at).signal < c.args.signals = omega (arith, ap (λ (x : Access). x.signal) c.access_in-access.ensures) in
+    search (ladder, known_task, known_signal) depth 9
 
 pub overflow_add-result : goal.overflow_add-result
 unfolding access_at access_in
@@ -47,5 +50,7 @@ overflow_add-result c = omega (arith, (room _ _ _ (granted c.holds.ensures c.if-
 
 pub returns : goal.returns
 unfolding access_at access_in
-returns c = let h : key_of c.args.last < key_of ((access_in c.args.bytes.now (c@Start).args.self.at)) = omega (arith, ap key_of c.access_in-access.ensures) in
-    search (ladder, (omega (arith, ap (λ (x : Access). x.task) c.access_in-access.ensures)), (omega (arith, ap (λ (x : Access). x.signal) c.access_in-access.ensures)), ap (λ (x : Access). Step.taken x (c.args.self.at + 4)) c.access_in-access.ensures) depth 9
+returns c = let h : key_of c.args.last < key_of (access_in c.args.bytes.now c.args.self.at) = omega (arith, ap key_of c.access_in-access.ensures) in
+    let known_task : (access_in c.args.bytes.now c.args.self.at).task < c.args.tasks = omega (arith, ap (λ (x : Access). x.task) c.access_in-access.ensures) in
+    let known_signal : (access_in c.args.bytes.now c.args.self.at).signal < c.args.signals = omega (arith, ap (λ (x : Access). x.signal) c.access_in-access.ensures) in
+    search (ladder, known_task, known_signal, ap (λ (x : Access). Step.taken x (c.args.self.at + 4)) c.access_in-access.ensures) depth 9
