@@ -22,7 +22,7 @@ nonzero_div-counts c = (c.requires.0.narrow c.loop-k.k (omega arith)).positive
 
 pub overflow_cast-counts : goal.overflow_cast-counts
 unfolding counts_of
-overflow_cast-counts c = let a = c.args in omega (arith, div-le_self a.hyper (task_of a.t1 c.loop-k.k).period, c.requires.1)
+overflow_cast-counts c = let a = c.args in omega (arith, div-le_self a.hyper (task_of a.tasks c.loop-k.k).period, c.requires.1)
 
 pub loop-k-preserved : goal.loop-k-preserved
 unfolding counts_of

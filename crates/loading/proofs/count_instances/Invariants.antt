@@ -11,5 +11,5 @@ use Rattle.state.proofs.Folds.{acted_none, acted_turn, acted_end}
 use Rattle.loading.specs.Laid.{counts_of}
 use Rattle.loading.proofs.count_instances.Given as goal
 abbrev pub invariant-loop-k : goal.invariant-loop-k
-invariant-loop-k l = (l.k ≤ l.n) × (l.counts ≡ up_to l.k (λ j l. set l j (l.hyper / (task_of l.tasks j).period)) (replicate most_tasks 0))
+invariant-loop-k l = (l.k ≤ l.n) × (l.counts ≡ up_to l.k (λ j m. set m j (l.hyper / (task_of l.tasks j).period)) (replicate most_tasks 0))
 

@@ -8,5 +8,5 @@ use Rattle.state.proofs.Folds.{acted_none, acted_turn, acted_end}
 use Rattle.loading.specs.Laid.{fill_elements}
 use Rattle.loading.proofs.fill_elements.Given as goal
 abbrev pub invariant-loop-e : goal.invariant-loop-e
-invariant-loop-e l = (l.e ≤ l.n) × (l.store ≡ up_to l.e (λ j l. set l (l.base + j) l.word) l.initial.store)
+invariant-loop-e l = (l.e ≤ l.n) × (l.store ≡ up_to l.e (λ j m. set m (l.base + j) l.word) l.initial.store)
 
