@@ -1,0 +1,6 @@
+-- `elements::steps::publish` meets its contract. Assumes nothing.
+use borrow.Author.Rules.{rules}
+use Rattle.elements.proofs.steps.publish.Goals as goal
+
+pub returns : goal.returns
+returns c = λ uses. rw c.larger.ensures

@@ -1,0 +1,6 @@
+-- `elements::steps::send` meets its contract. Assumes nothing.
+use borrow.Author.Rules.{rules}
+use Rattle.elements.proofs.steps.send.Goals as goal
+
+pub returns : goal.returns
+returns c = λ held own. rw c.larger.ensures

@@ -1,0 +1,12 @@
+-- `put_end` meets its contract: its stores are one run of bytes.
+use borrow.Author.Rules.{rules}
+use native.Mathlib.Numerals.{add-one}
+use native.Mathlib.Omega.{arith}
+use lib.ListN.{length-set}
+use Rattle.schedule.proofs.put_end.Goals as goal
+
+pub bounds-out-at-2 : goal.bounds-out-at-2
+bounds-out-at-2 c = simp length-set (omega arith)
+
+pub returns : goal.returns
+returns c = rw (add-one)
