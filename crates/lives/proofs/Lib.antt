@@ -3,9 +3,6 @@ pub mod Held
 pub mod Few
 pub mod Found
 pub mod Front
-pub mod Rows
-pub mod While
-pub mod Lending
 pub mod Says
 pub mod Packing
 pub mod Exact
