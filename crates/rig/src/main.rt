@@ -12,10 +12,11 @@ mod running;
 mod tell;
 mod turns;
 
-use bench::{LONGEST, MOST_BYTES, OUTPUT};
+use bench::{LONGEST, MOST_BYTES, OUTPUT, PIECE};
+use std::io;
 
-fn main() {
-    let mut piece = io::large_buffer();
+fn main(rt: HostRuntime) -> io::Result<()> {
+    let mut piece = [0u8; PIECE];
     // One byte more than the longest line, so that a full buffer is a line that is too long.
     let mut line = [0u8; LONGEST + 1];
     // The kept table.
@@ -23,5 +24,13 @@ fn main() {
     // What `plan` plans into, and where a schedule is held.
     let mut lent = [0u8; MOST_BYTES];
     let mut out = [0u8; OUTPUT];
-    input::run(&mut piece, &mut line, &mut kept, &mut lent, &mut out);
+    input::run(
+        &mut rt.stdin(),
+        &mut rt.stdout(),
+        &mut piece,
+        &mut line,
+        &mut kept,
+        &mut lent,
+        &mut out,
+    )
 }
