@@ -4,11 +4,11 @@ use borrow.Author.Rules.{rules}
 use Rattle.faults.proofs.Viewed.{first_on}
 use Rattle.faults.proofs.search.start_of.Goals as goal
 
-pub overflow_sub-result : goal.overflow_sub-result
-overflow_sub-result c = omega (arith, c.requires.2, first_on c.args.places c.args.task c.in-Readers.is)
+pub overflow_add-result : goal.overflow_add-result
+overflow_add-result c = omega (arith, c.requires.2, first_on c.args.places c.args.task c.in-Readers.is)
 
-pub offset_bounds-places-task-in-Writers : goal.offset_bounds-places-task-in-Writers
-offset_bounds-places-task-in-Writers c = omega (arith, c.requires.1, first_on c.args.places c.args.task c.enum_told.given.1)
+pub overflow_sub-result : goal.overflow_sub-result
+overflow_sub-result c = omega (arith, c.requires.1, first_on c.args.places c.args.task c.in-Readers.is)
 
 pub overflow_add-result-in-Writers : goal.overflow_add-result-in-Writers
 overflow_add-result-in-Writers c = omega (arith, c.requires.2, first_on c.args.places c.args.task c.in-Writers.is)
