@@ -1,0 +1,8 @@
+-- As over lent lists.
+use borrow.Author.Rules.{rules}
+use mathlib.Core.Path.{ap}
+use Rattle.machine.specs.Calls.{leaving}
+use Rattle.machine.proofs.Machine.step.Goals as goal
+
+pub returns : goal.returns
+returns c = ap (leaving c.args.self) c.step-answer.ensures

@@ -1,0 +1,20 @@
+-- The windows and the signals, then tick 0 opens.
+use borrow.Author.Rules.{rules}
+use Rattle.machine.specs.Started.{given}
+use Rattle.machine.proofs.Counted.{windowed, hyper_narrow, room, started_is}
+use Rattle.machine.proofs.lists.start.Goals as goal
+
+pub count_instances-counts-requires : goal.count_instances-counts-requires
+count_instances-counts-requires c = let a = c.args in let g = given a.tasks a.signals a.grid.now a.hyper a.schedule.now in (windowed g c.requires, hyper_narrow g c.requires)
+
+pub clear-requires : goal.clear-requires
+clear-requires c = let a = c.args in let g = given a.tasks a.signals a.grid.now a.hyper a.schedule.now in hyper_narrow g c.requires
+
+pub load_windows-requires : goal.load_windows-requires
+load_windows-requires c = let a = c.args in let g = given a.tasks a.signals a.grid.now a.hyper a.schedule.now in windowed g c.requires
+
+pub load_signals-requires : goal.load_signals-requires
+load_signals-requires c = let a = c.args in let g = given a.tasks a.signals a.grid.now a.hyper a.schedule.now in rw c.count_instances-counts.ensures (room g c.requires)
+
+pub returns : goal.returns
+returns c = let a = c.args in let g = given a.tasks a.signals a.grid.now a.hyper a.schedule.now in started_is g _ _ _ _ _ _ _ c.count_instances-counts.ensures c.clear.ensures c.load_windows.ensures c.load_signals.ensures c.release_all.ensures c.open_all.ensures
