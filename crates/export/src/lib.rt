@@ -1,5 +1,5 @@
 // The library for firmware: document 01's functions under C names. All but press_lists_new give back the number of their answer; where the number has a
-// place that is not always 0, it goes through the last parameter. A machine is the three lists that its caller lends.
+// place that is not always 0, it goes through the last parameter. A machine is the three lists that its caller lends. Crate `export_c` hands them to C.
 #![tactic(auto)]
 
 ghost use Rattle.std.specs.Prelude.{◌≡◌};
@@ -13,8 +13,7 @@ use rules::{Answer, MOST_SIGNALS, WORDS};
 use state::NUMBERS;
 
 // Reading a table: 0, or 1 to 11.
-#[unsafe(no_mangle)]
-pub extern "C" fn press_table(table: &[u8], place: &mut usize) -> u8
+pub fn press_table(table: &[u8], place: &mut usize) -> u8
     ensures { PressTableGives table.now result place.new }
 {
     let read = table::read_table(table);
@@ -24,8 +23,7 @@ pub extern "C" fn press_table(table: &[u8], place: &mut usize) -> u8
 }
 
 // Planning a table into the lent buffer: 0 with the bytes planned, or 1 to 14.
-#[unsafe(no_mangle)]
-pub extern "C" fn press_plan(table: &[u8], out: &mut [u8], place: &mut usize) -> u8
+pub fn press_plan(table: &[u8], out: &mut [u8], place: &mut usize) -> u8
     ensures { PressPlanGives table.now out.old result place.new out.new }
 {
     let planned = plan::plan(table, out);
@@ -34,8 +32,7 @@ pub extern "C" fn press_plan(table: &[u8], out: &mut [u8], place: &mut usize) ->
 }
 
 // Checking a schedule that was made elsewhere: 0, 1 to 11 for the table, or 15 to 22.
-#[unsafe(no_mangle)]
-pub extern "C" fn press_check(table: &[u8], schedule: &[u8], place: &mut usize) -> u8
+pub fn press_check(table: &[u8], schedule: &[u8], place: &mut usize) -> u8
     ensures { PressCheckGives table.now schedule.now result place.new }
 {
     let checked = inspect::check_schedule(table, schedule);
@@ -60,8 +57,7 @@ fn numbers_of(answer: Answer) -> Numbered
 }
 
 // The live list of a signal at the front of the lent list: 0 with the records filled, 1 to 12, 14 or 23.
-#[unsafe(no_mangle)]
-pub extern "C" fn press_live(
+pub fn press_live(
     table: &[u8],
     signal: usize,
     list: &mut [LiveValue],
@@ -76,8 +72,7 @@ pub extern "C" fn press_live(
 }
 
 // A machine before its first loading, so unfit.
-#[unsafe(no_mangle)]
-pub extern "C" fn press_lists_new(
+pub fn press_lists_new(
     numbers: &mut [u16; NUMBERS],
     defaults: &mut [u32; MOST_SIGNALS],
     store: &mut [u32; WORDS],
@@ -90,8 +85,7 @@ pub extern "C" fn press_lists_new(
 }
 
 // Loading: 0, 1 to 11 for the table, or 15 to 22. A refused one leaves the machine running.
-#[unsafe(no_mangle)]
-pub extern "C" fn press_lists_load<'a, 'b>(
+pub fn press_lists_load<'a, 'b>(
     numbers: &'b mut [u16; NUMBERS],
     defaults: &'b mut [u32; MOST_SIGNALS],
     store: &'b mut [u32; WORDS],
@@ -107,8 +101,7 @@ pub extern "C" fn press_lists_load<'a, 'b>(
 }
 
 // The next tick: 0, or 25.
-#[unsafe(no_mangle)]
-pub extern "C" fn press_lists_step(
+pub fn press_lists_step(
     numbers: &mut [u16; NUMBERS],
     defaults: &[u32; MOST_SIGNALS],
     store: &mut [u32; WORDS],
@@ -119,8 +112,7 @@ pub extern "C" fn press_lists_step(
 }
 
 // What a task reads of a signal now: 0 with the word, or 23 to 25 with word 0.
-#[unsafe(no_mangle)]
-pub extern "C" fn press_lists_read<'a>(
+pub fn press_lists_read<'a>(
     numbers: &'a [u16; NUMBERS],
     store: &'a [u32; WORDS],
     task: usize,
@@ -136,8 +128,7 @@ pub extern "C" fn press_lists_read<'a>(
 }
 
 // A task's write to a signal: 0, or 23 to 25.
-#[unsafe(no_mangle)]
-pub extern "C" fn press_lists_write(
+pub fn press_lists_write(
     numbers: &[u16; NUMBERS],
     store: &mut [u32; WORDS],
     task: usize,
@@ -150,8 +141,7 @@ pub extern "C" fn press_lists_write(
 }
 
 // Which instance of a task is open now: 0 with the instance, or 23 to 25 with instance 0.
-#[unsafe(no_mangle)]
-pub extern "C" fn press_lists_open(numbers: &[u16; NUMBERS], task: usize, instance: &mut u16) -> u8
+pub fn press_lists_open(numbers: &[u16; NUMBERS], task: usize, instance: &mut u16) -> u8
     ensures { PressOpenGives numbers.now task result instance.new }
 {
     let open = lists::open_instance(numbers, task);
