@@ -1,13 +1,13 @@
 -- What a change of one part leaves of the others, and that it keeps a state fit. Assumes nothing.
 use Prim.Native.Nat.{ℕ, zero, suc, ◌+◌, ◌-◌, ◌≤◌, ◌<◌}
 use mathlib.Core.Path.{◌≡◌, refl, ap, ap₂, ◌∙◌, subst}
-use mathlib.Core.Bool.{Bool, true, ◌&&◌}
+use mathlib.Core.Bool.{true, ◌&&◌}
 use mathlib.Core.List.{List, [], ◌∷◌}
 use native.Mathlib.Omega.{arith}
 use lib.Dec.{leb, ltb, eqb}
-use lib.ListN.{get_or, set}
+use lib.ListN.{set}
 use lib.Seq.{get_or-set_other}
-use borrow.Author.Tests.{ltb-true, ltb-false, lt-ltb}
+use borrow.Author.Tests.{ltb-true, lt-ltb}
 use Rattle.rules.specs.Table.{most_tasks, most_signals, most_uses, longest}
 use Rattle.state.specs.Parts.{at, cell, loaded, hyper, tick, counts, reads, writes, uses, positions, carried, held}
 use Rattle.state.specs.Fitness.{in_block, access_fits, task_fits, tasks_fit, positions_fit, running, fit}

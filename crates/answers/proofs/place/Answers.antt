@@ -1,6 +1,5 @@
 -- `answers::place` meets its contract: each arm gives what `told` says of its case. Assumes nothing.
 use Prim.Native.Nat.{ℕ}
-use borrow.Author.Rules.{rules}
 use Rattle.rules.specs.Numbers.{Told}
 use Rattle.answers.proofs.Said.{said}
 use Rattle.answers.proofs.place.Goals as goal

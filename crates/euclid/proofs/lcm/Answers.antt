@@ -1,5 +1,4 @@
 -- `euclid::lcm` meets its contract: at most 10,000 times 10,000.
-use Rattle.std.proofs.Common.{rules}
 use lib.Dec.{lit<}
 use native.Mathlib.Nat.{lt_of_le_of_lt, mul-le-mul, le_trans, div-le_self}
 use Rattle.rules.specs.Euclid.{lcm_of}

@@ -1,11 +1,9 @@
 -- `events::first_openings` meets its contract. The loop's invariant: the first k are there. Assumes nothing.
-use Prim.Native.Nat.{◌-◌, ◌<◌, ◌≤◌}
+use Prim.Native.Nat.{◌<◌}
 use mathlib.Core.Path.{◌≡◌, refl}
 use native.Mathlib.Nat.{not-suc-le-zero}
 use native.Mathlib.Omega.{arith}
 use lib.ListN.{length, length-set}
-use Rattle.rules.specs.Table.{most_tasks}
-use Rattle.events.specs.Order.{FirstOpenings}
 use Rattle.events.proofs.Merged.{openings_more}
 use Rattle.events.proofs.first_openings.Goals as goal
 

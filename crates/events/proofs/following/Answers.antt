@@ -1,7 +1,6 @@
 -- `events::following` meets its contract: which of the two it is, the test says. Assumes nothing.
 use borrow.Author.Tests.{eq-eqb, ne_eqb}
 use Rattle.events.specs.Order.{following_of}
-use borrow.Author.Rules.{rules}
 use Rattle.events.proofs.following.Goals as goal
 
 pub returns-then-event-eq1 : goal.returns-then-event-eq1

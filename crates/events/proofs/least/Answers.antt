@@ -1,9 +1,7 @@
 -- `events::least` meets its contract. The loop's invariant: `best` leads the first k. Assumes nothing.
-use Prim.Native.Nat.{◌-◌, ◌≤◌}
 use mathlib.Core.Path.{◌≡◌}
 use mathlib.Core.Logic.{inl, inr}
 use native.Mathlib.Omega.{arith}
-use Rattle.events.specs.Order.{Leads}
 use Rattle.events.proofs.Merged.{leads_one, leads_more}
 use Rattle.events.proofs.least.Goals as goal
 use Rattle.events.proofs.least.Goals.{then-next-k, else-next-k}

@@ -1,10 +1,6 @@
 -- `events::order_events` meets its contract. The loop's invariant: those below a number are taken, and each task has its next one. Assumes nothing.
-use Prim.Native.Nat.{◌-◌}
-use mathlib.Core.Path.{◌≡◌}
 use native.Mathlib.Omega.{arith}
-use Rattle.rules.specs.Table.{Fits}
-use Rattle.events.specs.Order.{tasks_table, most_events}
-use Rattle.events.proofs.Merged.{limit, Merged, merge_starts, merge_room, merge_turn, merge_ends}
+use Rattle.events.proofs.Merged.{merge_starts, merge_room, merge_turn, merge_ends}
 use Rattle.events.proofs.order_events.Goals as goal
 
 pub overflow_mul-end : goal.overflow_mul-end

@@ -1,10 +1,7 @@
 -- `fields::marked` meets its contract: the tests follow the definition's order.
-use borrow.Author.Rules.{rules}
 use native.Mathlib.Omega.{arith}
 use borrow.Author.Tests.{ne_eqb, not-true}
-use mathlib.Core.Path.{◌≡◌}
-use mathlib.Core.Bool.{true}
-use Rattle.rules.specs.Fields.{holds_at, mark_at}
+use Rattle.rules.specs.Fields.{mark_at}
 use Rattle.fields.proofs.Tested.{said, granted, room, mark_last}
 use Rattle.fields.proofs.marked.Goals as goal
 

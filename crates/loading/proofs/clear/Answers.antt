@@ -1,12 +1,8 @@
 -- A loop that acts.
 use native.Mathlib.Omega.{arith}
-use borrow.Author.Rules.{rules}
-use mathlib.Core.Path.{◌≡◌, refl}
-use Prim.Native.Nat.{◌-◌, ◌≤◌, ◌+◌}
-use lib.ListN.{set, replicate}
-use Rattle.rules.specs.Words.{up_to}
-use Rattle.state.specs.Parts.{none, cells, reads, loaded}
-use Rattle.state.specs.Parts as parts
+use mathlib.Core.Path.{refl}
+use Prim.Native.Nat.{◌+◌}
+use Rattle.state.specs.Parts.{cells}
 use Rattle.state.proofs.Folds.{acted_none, acted_turn, acted_end}
 use Rattle.loading.specs.Laid.{blank}
 use Rattle.loading.proofs.clear.Goals as goal

@@ -1,12 +1,7 @@
 -- A loop that acts.
 use native.Mathlib.Omega.{arith}
-use borrow.Author.Rules.{rules}
-use mathlib.Core.Path.{◌≡◌, refl}
-use Prim.Native.Nat.{◌-◌, ◌≤◌, ◌/◌}
+use mathlib.Core.Path.{refl}
 use native.Mathlib.Nat.{div-le_self}
-use lib.ListN.{set, replicate}
-use Rattle.rules.specs.Words.{up_to}
-use Rattle.rules.specs.Table.{most_tasks}
 use Rattle.rules.specs.Reading.{task_of}
 use Rattle.state.proofs.Folds.{acted_none, acted_turn, acted_end}
 use Rattle.loading.specs.Laid.{counts_of}

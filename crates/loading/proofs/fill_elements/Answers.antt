@@ -1,10 +1,6 @@
 -- A loop that acts.
 use native.Mathlib.Omega.{arith}
-use borrow.Author.Rules.{rules}
-use mathlib.Core.Path.{◌≡◌, refl}
-use Prim.Native.Nat.{◌-◌, ◌≤◌, ◌+◌}
-use lib.ListN.{set}
-use Rattle.rules.specs.Words.{up_to}
+use mathlib.Core.Path.{refl}
 use Rattle.state.proofs.Folds.{acted_none, acted_turn, acted_end}
 use Rattle.loading.specs.Laid.{fill_elements}
 use Rattle.loading.proofs.fill_elements.Goals as goal

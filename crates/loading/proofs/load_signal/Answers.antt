@@ -1,11 +1,9 @@
 -- One signal: its parts one after the other.
 use native.Mathlib.Omega.{arith}
-use borrow.Author.Rules.{rules}
 use mathlib.Core.Path.{◌≡◌, ap₂, ◌∙◌}
-use Prim.Native.Nat.{ℕ, ◌+◌, ◌-◌}
-use mathlib.Core.List.{List}
+use Prim.Native.Nat.{◌-◌}
 use Rattle.state.specs.Parts.{reads}
-use Rattle.loading.specs.Laid.{uses_of, place_accesses, place_uses, signal_uses, signal_at}
+use Rattle.loading.specs.Laid.{place_accesses, place_uses, signal_uses, signal_at}
 use Rattle.loading.proofs.load_signal.Goals as goal
 
 pub returns : goal.returns

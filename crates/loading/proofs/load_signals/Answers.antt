@@ -1,11 +1,9 @@
 -- A loop that acts on both lists and adds up.
 use native.Mathlib.Omega.{arith}
-use borrow.Author.Rules.{rules}
-use mathlib.Core.Path.{◌≡◌, ap, ap₂, ◌∙◌}
-use Prim.Native.Nat.{◌-◌, ◌≤◌, ◌+◌}
-use Rattle.rules.specs.Words.{up_to}
+use mathlib.Core.Path.{ap}
+use Prim.Native.Nat.{◌+◌}
 use Rattle.state.proofs.Folds.{acted_none, acted_turn, acted_end}
-use Rattle.loading.specs.Laid.{count_in, used_before, base_before, signal_at, fill_elements, signal_laid, store_laid}
+use Rattle.loading.specs.Laid.{count_in, signal_laid, store_laid}
 use Rattle.loading.proofs.Sums.{used_none, used_next, used_up, base_none, base_next, base_up}
 use Rattle.loading.proofs.load_signals.Goals as goal
 

@@ -1,13 +1,7 @@
 -- A loop that acts.
 use native.Mathlib.Omega.{arith}
-use borrow.Author.Rules.{rules}
-use mathlib.Core.Path.{◌≡◌}
-use Prim.Native.Nat.{◌-◌, ◌≤◌}
-use lib.ListN.{get_or}
-use Rattle.rules.specs.Words.{up_to}
-use Rattle.rules.specs.Reading.{task_of}
 use Rattle.state.proofs.Folds.{acted_none, acted_turn, acted_end}
-use Rattle.loading.specs.Laid.{set_window, windows_laid}
+use Rattle.loading.specs.Laid.{windows_laid}
 use Rattle.loading.proofs.load_windows.Goals as goal
 
 pub loop-k-init : goal.loop-k-init

@@ -1,13 +1,10 @@
-use native.Mathlib.Omega.{arith}
-use borrow.Author.Rules.{rules}
 use mathlib.Core.Path.{◌≡◌}
-use Prim.Native.Nat.{◌-◌, ◌≤◌}
+use Prim.Native.Nat.{◌≤◌}
 use lib.ListN.{get_or}
 use Rattle.rules.specs.Words.{up_to}
 use Rattle.rules.specs.Reading.{task_of}
-use Rattle.state.proofs.Folds.{acted_none, acted_turn, acted_end}
-use Rattle.loading.specs.Laid.{set_window, windows_laid}
+use Rattle.loading.specs.Laid.{set_window}
 use Rattle.loading.proofs.load_windows.Given as goal
+
 abbrev pub invariant-loop-k : goal.invariant-loop-k
 invariant-loop-k l = (l.k ≤ l.n) × (l.numbers ≡ up_to l.k (λ j. set_window (task_of l.tasks j) (get_or l.counts j 0) j) l.initial.numbers)
-

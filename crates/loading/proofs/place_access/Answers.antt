@@ -1,6 +1,5 @@
 -- An access that is not permitted leaves the list.
 use native.Mathlib.Omega.{arith}
-use borrow.Author.Rules.{rules}
 use mathlib.Core.Path.{sym, ◌∙◌}
 use borrow.Author.Tests.{not-true, not-false}
 use Rattle.loading.specs.Laid.{place_access}

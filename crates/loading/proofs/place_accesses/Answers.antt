@@ -1,12 +1,10 @@
 -- A loop that acts and adds up.
 use native.Mathlib.Omega.{arith}
-use borrow.Author.Rules.{rules}
-use mathlib.Core.Path.{◌≡◌, ◌∙◌, ap}
-use Prim.Native.Nat.{◌-◌, ◌≤◌, ◌+◌}
+use mathlib.Core.Path.{◌∙◌, ap}
+use Prim.Native.Nat.{◌+◌}
 use native.Mathlib.Nat.{le_antisymm}
-use Rattle.rules.specs.Words.{up_to}
 use Rattle.state.proofs.Folds.{acted_none, acted_turn, acted_end}
-use Rattle.loading.specs.Laid.{uses_of, place_access, place_accesses}
+use Rattle.loading.specs.Laid.{uses_of, place_accesses}
 use Rattle.loading.proofs.Sums.{uses_next, uses_up, uses_none}
 use Rattle.loading.proofs.place_accesses.Goals as goal
 

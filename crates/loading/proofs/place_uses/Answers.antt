@@ -1,13 +1,7 @@
 -- A loop that acts.
 use native.Mathlib.Omega.{arith}
-use borrow.Author.Rules.{rules}
-use mathlib.Core.Path.{◌≡◌}
-use Prim.Native.Nat.{◌-◌, ◌≤◌, ◌+◌}
-use lib.ListN.{set}
-use Rattle.rules.specs.Words.{up_to}
-use Rattle.state.specs.Parts.{uses}
 use Rattle.state.proofs.Folds.{acted_none, acted_turn, acted_end}
-use Rattle.loading.specs.Laid.{element_in, place_uses}
+use Rattle.loading.specs.Laid.{place_uses}
 use Rattle.loading.proofs.place_uses.Goals as goal
 
 pub loop-j-init : goal.loop-j-init

@@ -1,5 +1,4 @@
 -- `records::access_in` meets its contract, field by field.
-use borrow.Author.Rules.{rules}
 use Prim.Native.Nat.{◌+◌}
 use lib.ListN.{get_or}
 use Rattle.rules.specs.Records.{access_in}

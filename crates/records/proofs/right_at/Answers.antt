@@ -1,5 +1,4 @@
 -- `records::right_at` meets its contract: the tests follow the definition's order.
-use borrow.Author.Rules.{rules}
 use Rattle.fields.proofs.Whens.{ladder}
 use Rattle.rules.specs.Records.{right_at}
 use Rattle.records.proofs.right_at.Goals as goal

@@ -1,5 +1,4 @@
 -- `records::task_in` meets its contract, field by field.
-use borrow.Author.Rules.{rules}
 use Rattle.rules.specs.Records.{task_in}
 use Rattle.records.proofs.task_in.Goals as goal
 

@@ -1,19 +1,13 @@
-use borrow.Author.Rules.{rules}
-use native.Mathlib.Omega.{arith}
-use Prim.Native.Nat.{◌≤◌, ◌<◌, ◌+◌, ◌-◌}
-use mathlib.Core.Path.{◌≡◌, sym, ap, ◌∙◌}
+use Prim.Native.Nat.{◌≤◌, ◌+◌, ◌-◌}
+use mathlib.Core.Path.{◌≡◌}
 use Rattle.rules.specs.Table.{most_accesses}
 use Rattle.rules.specs.Records.{End}
 use Rattle.rules.specs.Reading.{accesses_from, accesses_in}
-use Rattle.rules.specs.declared.Accesses.{Accesses}
-use Rattle.records.specs.Said.{access_said}
-use Rattle.sections.proofs.Sectioned.{turned}
-use Rattle.sections.proofs.Taken.{access_taken}
 use Rattle.sections.proofs.accesses_from.Given as goal
+
 abbrev pub invariant-loop-access : goal.invariant-loop-access
 invariant-loop-access l = (l.accesses.count ≤ most_accesses)
     × (accesses_from l.bytes l.tasks l.signals (most_accesses + 1 - l.accesses.count) l.accesses l.cursor.at ≡ accesses_in l.bytes l.tasks l.signals (End.at l.initial.cursor.at))
 
 abbrev pub decreases-loop-access : goal.decreases-loop-access
 decreases-loop-access l = most_accesses + 1 - l.accesses.count
-

@@ -1,5 +1,4 @@
 -- `sections::read_accesses` meets its contract: by how the signals ended.
-use borrow.Author.Rules.{rules}
 use native.Mathlib.Omega.{arith}
 use mathlib.Core.Path.{sym, ap, ◌∙◌}
 use Rattle.rules.specs.Numbers.{told}
@@ -14,5 +13,8 @@ returns-in-At c = record { is = c.accesses_from.ensures.is ∙ sym (ap (accesses
 
 pub returns-in-Refused : goal.returns-in-Refused
 unfolding accesses_in
-returns-in-Refused c = record { is = ap {B = Section Accesses} (λ (b : Accesses). record { read = b; end = End.refused (told c.in-Refused.answer) }) c.no_accesses.ensures
-      ∙ sym (ap (accesses_in _ _ _) (ap end_said c.in-Refused.is)); few = omega (arith, ap (λ (b : Accesses). b.count) c.no_accesses.ensures) }
+returns-in-Refused c = record {
+  is = ap {B = Section Accesses} (λ (b : Accesses). record { read = b; end = End.refused (told c.in-Refused.answer) }) c.no_accesses.ensures
+      ∙ sym (ap (accesses_in _ _ _) (ap end_said c.in-Refused.is));
+  few = omega (arith, ap (λ (b : Accesses). b.count) c.no_accesses.ensures);
+}

@@ -1,5 +1,4 @@
 -- `sections::read_end` meets its contract: by how the accesses ended.
-use borrow.Author.Rules.{rules}
 use mathlib.Core.Path.{sym, ap, ◌∙◌}
 use Rattle.rules.specs.Reading.{ended}
 use Rattle.records.specs.Said.{end_said}

@@ -1,5 +1,4 @@
 -- `sections::read_signals` meets its contract: by how the tasks ended.
-use borrow.Author.Rules.{rules}
 use native.Mathlib.Omega.{arith}
 use mathlib.Core.Path.{sym, ap, ◌∙◌}
 use Rattle.rules.specs.Numbers.{told}
@@ -14,5 +13,8 @@ returns-in-At c = record { is = c.signals_from.ensures.is ∙ sym (ap (signals_i
 
 pub returns-in-Refused : goal.returns-in-Refused
 unfolding signals_in
-returns-in-Refused c = record { is = ap {B = Section Signals} (λ (b : Signals). record { read = b; end = End.refused (told c.in-Refused.answer) }) c.no_signals.ensures
-      ∙ sym (ap (signals_in _) (ap end_said c.in-Refused.is)); few = omega (arith, ap (λ (b : Signals). b.count) c.no_signals.ensures) }
+returns-in-Refused c = record {
+  is = ap {B = Section Signals} (λ (b : Signals). record { read = b; end = End.refused (told c.in-Refused.answer) }) c.no_signals.ensures
+      ∙ sym (ap (signals_in _) (ap end_said c.in-Refused.is));
+  few = omega (arith, ap (λ (b : Signals). b.count) c.no_signals.ensures);
+}

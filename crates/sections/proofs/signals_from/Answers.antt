@@ -1,10 +1,8 @@
 -- `sections::signals_from` meets its contract: what the rest of the section gives, from the signals read so far, is what the whole gives.
-use borrow.Author.Rules.{rules}
 use native.Mathlib.Omega.{arith}
-use Prim.Native.Nat.{◌≤◌, ◌<◌, ◌+◌, ◌-◌}
-use mathlib.Core.Path.{◌≡◌, sym, ap, ◌∙◌}
+use Prim.Native.Nat.{◌+◌, ◌-◌}
+use mathlib.Core.Path.{sym, ap, ◌∙◌}
 use Rattle.rules.specs.Table.{most_signals}
-use Rattle.rules.specs.Records.{End}
 use Rattle.rules.specs.Reading.{signals_from, signals_in}
 use Rattle.rules.specs.declared.Signals.{Signals}
 use Rattle.records.specs.Said.{signal_said}
@@ -18,9 +16,9 @@ use Rattle.sections.proofs.signals_from.Goals as goal
 pub loop-default-init : goal.loop-default-init
 unfolding signals_in
 loop-default-init c = let a = c.args in (
-      omega (arith, ap (λ (b : Signals). b.count) c.no_signals-signals.ensures),
-      ap (λ (b : Signals). signals_from a.bytes.now (most_signals + 1 - b.count) b a.from.at) c.no_signals-signals.ensures,
-    )
+  omega (arith, ap (λ (b : Signals). b.count) c.no_signals-signals.ensures),
+  ap (λ (b : Signals). signals_from a.bytes.now (most_signals + 1 - b.count) b a.from.at) c.no_signals-signals.ensures,
+)
 
 pub offset_bounds-signals-count : goal.offset_bounds-signals-count
 offset_bounds-signals-count c = omega (arith, (signal_few _ _ _ (sym c.signal_at.ensures ∙ ap signal_said c.in-Taken.is)))
@@ -36,9 +34,9 @@ loop-default-smaller c = omega (arith, (signal_few _ _ _ (sym c.signal_at.ensure
 
 pub loop-default-preserved : goal.loop-default-preserved
 loop-default-preserved c = let i = c.loop-default in (
-      omega (arith, (signal_few _ _ _ (sym c.signal_at.ensures ∙ ap signal_said c.in-Taken.is))),
-      turned _ _ signal_said (most_signals + 1 - (i.signals.count + 1)) _ _ (omega arith) c.in-Taken.is c.signal_at.ensures ∙ i.invariant.1,
-    )
+  omega (arith, (signal_few _ _ _ (sym c.signal_at.ensures ∙ ap signal_said c.in-Taken.is))),
+  turned _ _ signal_said (most_signals + 1 - (i.signals.count + 1)) _ _ (omega arith) c.in-Taken.is c.signal_at.ensures ∙ i.invariant.1,
+)
 
 pub returns-in-Other : goal.returns-in-Other
 returns-in-Other c = let i = c.loop-default in record { is = turned _ _ signal_said (most_signals - i.signals.count) _ _ (omega arith) c.in-Other.is c.signal_at.ensures ∙ i.invariant.1; few = i.invariant.0 }

@@ -1,6 +1,5 @@
 -- The next tick is in this hyper-period, or it is H.
 use native.Mathlib.Omega.{arith}
-use borrow.Author.Rules.{rules}
 use borrow.Author.Tests.{lt-ltb, le-ltb}
 use Prim.Native.Nat.{◌+◌}
 use Rattle.state.specs.Parts.{at, tick, hyper}

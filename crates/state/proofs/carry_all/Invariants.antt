@@ -1,12 +1,9 @@
-use native.Mathlib.Omega.{arith}
-use borrow.Author.Rules.{rules}
 use mathlib.Core.Path.{◌≡◌}
-use Prim.Native.Nat.{◌-◌, ◌≤◌}
+use Prim.Native.Nat.{◌≤◌}
 use Rattle.rules.specs.Table.{most_signals}
 use Rattle.rules.specs.Words.{up_to}
-use Rattle.state.specs.Rows.{carry_one, copies}
-use Rattle.state.proofs.Folds.{acted_none, acted_turn, acted_end}
+use Rattle.state.specs.Rows.{carry_one}
 use Rattle.state.proofs.carry_all.Given as goal
+
 abbrev pub invariant-loop-s : goal.invariant-loop-s
 invariant-loop-s l = (l.s ≤ most_signals) × (l.store ≡ up_to l.s (carry_one l.numbers) l.initial.store)
-

@@ -1,5 +1,4 @@
 -- The instance that closes.
-use borrow.Author.Rules.{rules}
 use mathlib.Core.Path.{◌∙◌}
 use Rattle.state.specs.Rows.{closing_of}
 use Rattle.state.proofs.closing.Goals as goal

@@ -1,7 +1,6 @@
 -- One element is set to the signal's word, if the instance has the access.
-use borrow.Author.Rules.{rules}
 use mathlib.Core.Path.{sym, ◌∙◌}
-use Rattle.state.specs.Rows.{save, fill_one}
+use Rattle.state.specs.Rows.{fill_one}
 use Rattle.state.proofs.fill_one.Goals as goal
 
 pub returns-then-lacks : goal.returns-then-lacks

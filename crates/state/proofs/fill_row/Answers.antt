@@ -1,11 +1,6 @@
 -- A loop that acts.
 use native.Mathlib.Omega.{arith}
-use borrow.Author.Rules.{rules}
-use mathlib.Core.Path.{◌≡◌}
-use Prim.Native.Nat.{◌-◌, ◌≤◌}
-use Rattle.rules.specs.Table.{most_signals, words}
-use Rattle.rules.specs.Words.{up_to}
-use Rattle.state.specs.Rows.{fill_one}
+use Rattle.rules.specs.Table.{most_signals}
 use Rattle.state.proofs.Folds.{acted_none, acted_turn, acted_end}
 use Rattle.state.proofs.fill_row.Goals as goal
 

@@ -1,5 +1,4 @@
 -- The instance that opens, if one does.
-use borrow.Author.Rules.{rules}
 use Rattle.state.proofs.fill_task.Goals as goal
 
 pub returns-in-At : goal.returns-in-At

@@ -1,5 +1,4 @@
 -- The instance that is inside its window.
-use borrow.Author.Rules.{rules}
 use mathlib.Core.Path.{◌∙◌}
 use Rattle.state.specs.Rows.{inside_of}
 use Rattle.state.proofs.inside.Goals as goal

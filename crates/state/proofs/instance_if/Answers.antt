@@ -1,5 +1,4 @@
 -- The tests follow the definition's order.
-use borrow.Author.Rules.{rules}
 use Rattle.fields.proofs.Whens.{ladder}
 use Rattle.state.specs.Rows.{instance_if}
 use Rattle.state.proofs.instance_if.Goals as goal

@@ -1,9 +1,7 @@
 -- The tests one after the other.
-use borrow.Author.Rules.{rules}
 use mathlib.Core.Path.{ap₂, ◌∙◌}
 use mathlib.Core.Bool.{◌&&◌}
 use Rattle.state.specs.Fitness.{fit}
-use Rattle.theory.proofs.Tests.{both}
 use Rattle.state.proofs.is_fit.Goals as goal
 
 pub returns : goal.returns

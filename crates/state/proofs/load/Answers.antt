@@ -1,6 +1,5 @@
 -- A word inside the store, or past its end.
 use native.Mathlib.Omega.{arith}
-use borrow.Author.Rules.{rules}
 use borrow.Author.Tests.{lt-ltb, le-ltb}
 use Rattle.rules.specs.Table.{words}
 use Rattle.state.specs.Rows.{load}

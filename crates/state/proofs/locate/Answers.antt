@@ -1,5 +1,4 @@
 -- The tests follow the definition's order.
-use borrow.Author.Rules.{rules}
 use mathlib.Core.Path.{sym, ap, ◌∙◌}
 use Rattle.fields.proofs.Whens.{ladder}
 use Rattle.state.specs.Rows.{where_open, place_of}

@@ -1,5 +1,4 @@
 -- The instance of the period that the tick lies in.
-use borrow.Author.Rules.{rules}
 use mathlib.Core.Path.{◌∙◌}
 use Rattle.state.proofs.now_if.Goals as goal
 

@@ -1,11 +1,7 @@
 -- A loop that acts.
 use native.Mathlib.Omega.{arith}
-use borrow.Author.Rules.{rules}
-use mathlib.Core.Path.{◌≡◌}
-use Prim.Native.Nat.{◌-◌, ◌≤◌}
 use Rattle.rules.specs.Table.{most_tasks}
-use Rattle.rules.specs.Words.{up_to}
-use Rattle.state.specs.Rows.{opening_of, fill_one, at_instance, openings}
+use Rattle.state.specs.Rows.{openings}
 use Rattle.state.proofs.Folds.{acted_none, acted_turn, acted_end}
 use Rattle.state.proofs.open_all.Goals as goal
 

@@ -1,5 +1,4 @@
 -- The instance that opens.
-use borrow.Author.Rules.{rules}
 use mathlib.Core.Path.{◌∙◌}
 use Rattle.state.specs.Rows.{opening_of}
 use Rattle.state.proofs.opening.Goals as goal

@@ -1,10 +1,8 @@
 -- A period of 0 has no phases.
 use native.Mathlib.Omega.{arith}
-use borrow.Author.Rules.{rules}
 use borrow.Author.Tests.{eq-eqb, ne_eqb}
 use native.Mathlib.Nat.{mod-lt}
 use Prim.Native.Nat.{◌<◌}
-use Rattle.state.specs.Parts.{tick}
 use Rattle.state.proofs.phase.Goals as goal
 
 pub returns-then-period-eq0 : goal.returns-then-period-eq0

@@ -1,5 +1,4 @@
 -- How far into its period.
-use borrow.Author.Rules.{rules}
 use mathlib.Core.Path.{◌∙◌}
 use Rattle.state.proofs.phase_now.Goals as goal
 

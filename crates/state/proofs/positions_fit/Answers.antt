@@ -1,13 +1,8 @@
 -- A loop that tests.
 use native.Mathlib.Omega.{arith}
-use borrow.Author.Rules.{rules}
-use mathlib.Core.Path.{◌≡◌}
-use Prim.Native.Nat.{◌+◌, ◌-◌, ◌≤◌}
-use Rattle.rules.specs.Words.{every}
-use Rattle.state.specs.Parts.{at, uses, positions}
-use Rattle.state.specs.Fitness.{in_block, positions_fit}
+use Rattle.state.specs.Parts.{positions}
+use Rattle.state.specs.Fitness.{positions_fit}
 use Rattle.state.proofs.Folds.{tested_none, tested_turn, tested_end}
-use Rattle.theory.proofs.Tests.{both}
 use Rattle.state.proofs.positions_fit.Goals as goal
 
 pub loop-k-init : goal.loop-k-init

@@ -1,5 +1,4 @@
 -- One signal is held where the closing instance has it, if it has the access.
-use borrow.Author.Rules.{rules}
 use mathlib.Core.Path.{sym, ◌∙◌}
 use Rattle.state.specs.Rows.{publish_one}
 use Rattle.state.proofs.publish_one.Goals as goal

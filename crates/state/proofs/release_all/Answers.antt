@@ -1,11 +1,7 @@
 -- A loop that acts.
 use native.Mathlib.Omega.{arith}
-use borrow.Author.Rules.{rules}
-use mathlib.Core.Path.{◌≡◌}
-use Prim.Native.Nat.{◌-◌, ◌≤◌}
 use Rattle.rules.specs.Table.{most_signals}
-use Rattle.rules.specs.Words.{up_to}
-use Rattle.state.specs.Rows.{release_one, released}
+use Rattle.state.specs.Rows.{released}
 use Rattle.state.proofs.Folds.{acted_none, acted_turn, acted_end}
 use Rattle.state.proofs.release_all.Goals as goal
 

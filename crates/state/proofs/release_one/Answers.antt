@@ -1,5 +1,4 @@
 -- One signal is held in its element 0.
-use borrow.Author.Rules.{rules}
 use mathlib.Core.Path.{refl}
 use Rattle.state.specs.Rows.{release_one}
 use Rattle.state.proofs.release_one.Goals as goal

@@ -1,17 +1,14 @@
 -- A loop that tests.
 use native.Mathlib.Omega.{arith}
-use borrow.Author.Rules.{rules}
 use borrow.Author.Tests.{le-leb, lt-leb}
 use mathlib.Core.Path.{◌≡◌, ap, ap₂, ◌∙◌}
 use mathlib.Core.Bool.{◌&&◌, ◌||◌}
-use Prim.Native.Nat.{ℕ, ◌+◌, ◌-◌, ◌≤◌}
+use Prim.Native.Nat.{ℕ, ◌+◌}
 use lib.Dec.{leb, eqb}
-use Rattle.rules.specs.Words.{every}
 use Rattle.rules.specs.Table.{most_signals}
 use Rattle.state.specs.Parts.{at, none, cell, counts, reads, writes}
-use Rattle.state.specs.Fitness.{in_uses, access_fits, task_fits, fit}
+use Rattle.state.specs.Fitness.{in_uses, access_fits, task_fits}
 use Rattle.state.proofs.Folds.{tested_none, tested_turn, tested_end}
-use Rattle.theory.proofs.Tests.{both}
 use Rattle.state.proofs.task_fits.Goals as goal
 
 -- no access, or an index up to the last one that fits

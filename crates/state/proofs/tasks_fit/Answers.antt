@@ -1,13 +1,8 @@
 -- A loop that tests.
 use native.Mathlib.Omega.{arith}
-use borrow.Author.Rules.{rules}
-use mathlib.Core.Path.{◌≡◌}
-use Prim.Native.Nat.{◌-◌, ◌≤◌}
-use Rattle.rules.specs.Words.{every}
 use Rattle.rules.specs.Table.{most_tasks}
-use Rattle.state.specs.Fitness.{task_fits, tasks_fit}
+use Rattle.state.specs.Fitness.{tasks_fit}
 use Rattle.state.proofs.Folds.{tested_none, tested_turn, tested_end}
-use Rattle.theory.proofs.Tests.{both}
 use Rattle.state.proofs.tasks_fit.Goals as goal
 
 pub loop-t-init : goal.loop-t-init

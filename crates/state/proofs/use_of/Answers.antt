@@ -1,6 +1,5 @@
 -- A use inside the list, or past it.
 use native.Mathlib.Omega.{arith}
-use borrow.Author.Rules.{rules}
 use borrow.Author.Tests.{lt-ltb, le-ltb}
 use Prim.Native.Nat.{◌+◌}
 use Rattle.rules.specs.Table.{most_uses}

@@ -1,11 +1,10 @@
 use mathlib.Core.Path.{◌≡◌, sym}
-use Prim.Native.Nat.{◌+◌, ◌-◌, ◌≤◌}
+use Prim.Native.Nat.{◌+◌}
 use native.Mathlib.Omega.{arith}
 use borrow.Author.Rules.{rules}
-use Rattle.rules.specs.Table.{longest}
 use Rattle.rules.specs.Reading.{task_of}
 use Rattle.windows.proofs.Windows.{window}
-use Rattle.windows.proofs.Periods.{lcm_first, lcm_none, lcm_turn, lcm_pos, above_early, ticks}
+use Rattle.windows.proofs.Periods.{lcm_none, lcm_turn, lcm_pos, above_early, ticks}
 use Rattle.windows.proofs.hyper_period.Goals as goal
 
 pub loop-k-init : goal.loop-k-init

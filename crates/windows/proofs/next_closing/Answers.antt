@@ -33,4 +33,3 @@ pub returns-else-limit-next : goal.returns-else-limit-next
 returns-else-limit-next c =
     let e : next_closing c.args.task c.args.tick c.args.limit ≡ min c.args.limit c.if-task-tick.next = elim c.if-task-tick.branch [ then-task-tick w ↦ next_later _ _ _ _ w.if-task-tick.true w.next-is | else-task-tick w ↦ next_own _ _ _ _ w.if-task-tick.false w.next-is ] in
     sym (e ∙ min-eq_right (le_of_lt c.if-limit-next.false))
-

@@ -1,9 +1,7 @@
 -- `Cursor::access` meets its contract: the tests follow the definition's order.
-use borrow.Author.Rules.{rules}
 use native.Mathlib.Omega.{arith}
 use Prim.Native.Nat.{◌+◌, ◌≤◌, ◌<◌}
 use mathlib.Core.Path.{ap}
-use lib.ListN.{length}
 use Rattle.fields.proofs.Tested.{granted, room}
 use Rattle.fields.proofs.Whens.{ladder}
 use Rattle.rules.specs.Records.{Step, access_at, access_in, key_of}

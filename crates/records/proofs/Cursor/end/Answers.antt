@@ -1,5 +1,4 @@
 -- `Cursor::end` meets its contract: the tests follow the definition's order.
-use borrow.Author.Rules.{rules}
 use native.Mathlib.Omega.{arith}
 use Rattle.fields.proofs.Tested.{granted, room}
 use Rattle.fields.proofs.Whens.{ladder}

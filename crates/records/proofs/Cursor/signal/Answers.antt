@@ -1,8 +1,5 @@
 -- `Cursor::signal` meets its contract: the tests follow the definition's order.
-use borrow.Author.Rules.{rules}
 use native.Mathlib.Omega.{arith}
-use Prim.Native.Nat.{◌+◌, ◌≤◌}
-use lib.ListN.{length}
 use Rattle.fields.proofs.Tested.{granted, room}
 use Rattle.fields.proofs.Whens.{ladder}
 use Rattle.rules.specs.Records.{signal_at}

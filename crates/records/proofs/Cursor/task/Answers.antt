@@ -1,13 +1,11 @@
 -- `Cursor::task` meets its contract: the tests follow the definition's order.
-use borrow.Author.Rules.{rules}
 use native.Mathlib.Omega.{arith}
-use Prim.Native.Nat.{◌+◌, ◌≤◌}
-use mathlib.Core.Path.{◌≡◌, ap, ◌∙◌}
-use lib.ListN.{length}
+use Prim.Native.Nat.{◌+◌}
+use mathlib.Core.Path.{ap, ◌∙◌}
 use Rattle.fields.proofs.Tested.{granted, room}
 use Rattle.fields.proofs.Whens.{ladder}
 use Rattle.rules.specs.Table.{windowed}
-use Rattle.rules.specs.Records.{Step, task_at, task_in}
+use Rattle.rules.specs.Records.{Step, task_at}
 use Rattle.rules.specs.declared.Task.{Task}
 use Rattle.records.proofs.Cursor.task.Goals as goal
 

@@ -1,18 +1,16 @@
 -- `grid::grid_from` meets its contract: what the rest of the section gives, from the accesses read so far, is what the whole gives.
-use borrow.Author.Rules.{rules}
 use native.Mathlib.Omega.{arith}
-use Prim.Native.Nat.{ℕ, ◌≤◌, ◌+◌, ◌-◌}
+use Prim.Native.Nat.{ℕ, ◌+◌, ◌-◌}
 use mathlib.Core.Path.{◌≡◌, sym, ap, ◌∙◌}
 use mathlib.Core.List.{[]}
 use lib.ListN.{get_or, set}
 use Rattle.rules.specs.Table.{most_accesses}
-use Rattle.rules.specs.Records.{End}
 use Rattle.rules.specs.Reading.{Section, Marked, Grid, no_grid, joined_of, put_cell, put_access, marked_from, grid_from}
 use Rattle.rules.specs.declared.Access.{Access}
 use Rattle.rules.specs.declared.Accesses.{Accesses}
 use Rattle.records.specs.Said.{access_said}
 use Rattle.sections.proofs.Sectioned.{turned}
-use Rattle.sections.proofs.Taken.{AccessTaken, access_taken}
+use Rattle.sections.proofs.Taken.{access_taken}
 use Rattle.sections.proofs.grid.grid_from.Goals as goal
 
 -- the cell that the code stores is the definition's
@@ -26,9 +24,9 @@ grid b = b.read.grid
 pub loop-access-init : goal.loop-access-init
 unfolding grid_from
 loop-access-init c = let a = c.args in (
-      omega (arith, ap (λ (b : Accesses). b.count) c.no_accesses-accesses.ensures),
-      ap (λ (b : Accesses). (marked_from a.bytes.now a.tasks a.signals (most_accesses + 1 - b.count) (record { grid = no_grid; accesses = b }) a.from.at).read.grid) c.no_accesses-accesses.ensures,
-    )
+  omega (arith, ap (λ (b : Accesses). b.count) c.no_accesses-accesses.ensures),
+  ap (λ (b : Accesses). (marked_from a.bytes.now a.tasks a.signals (most_accesses + 1 - b.count) (record { grid = no_grid; accesses = b }) a.from.at).read.grid) c.no_accesses-accesses.ensures,
+)
 
 pub offset_bounds-grid-task : goal.offset_bounds-grid-task
 offset_bounds-grid-task c = omega (arith, (access_taken _ _ _ _ _ _ (sym c.access_at.ensures ∙ ap access_said c.in-Taken.is)))

@@ -1,5 +1,4 @@
 -- `grid::read_grid` meets its contract: the tasks and the signals are the definition's, and so is where the accesses start.
-use borrow.Author.Rules.{rules}
 use Prim.Native.Nat.{ℕ}
 use mathlib.Core.List.{List}
 use mathlib.Core.Path.{◌≡◌, ap, ◌∙◌}

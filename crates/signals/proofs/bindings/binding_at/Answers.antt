@@ -1,10 +1,8 @@
 use mathlib.Core.Path.{◌≡◌, sym, ◌∙◌}
 use mathlib.Core.Logic.{inl, inr}
-use Prim.Native.Nat.{◌-◌, ◌≤◌}
 use native.Mathlib.Omega.{arith}
 use borrow.Author.Rules.{rules}
-use Rattle.rules.specs.Reading.{writes_in}
-use Rattle.signals.specs.Forms.{binding_below, binding_of}
+use Rattle.signals.specs.Forms.{binding_of}
 use Rattle.signals.proofs.Passes.{pass_none, pass_turn}
 use Rattle.signals.proofs.bindings.binding_at.Goals.{then-writes, else-writes}
 use Rattle.signals.proofs.bindings.binding_at.Goals as goal
@@ -32,10 +30,10 @@ loop-k-smaller c = omega arith
 
 pub loop-k-preserved : goal.loop-k-preserved
 loop-k-preserved c = let said = sym c.writes.ensures in (
-      omega arith,
-      pass_turn _ _ _ _ c.loop-k.invariant.1
-          (elim c.if-writes.branch [ then-writes w ↦ inl (said ∙ w.if-writes.true, w.found-is ∙ w.later-found.ensures) | else-writes w ↦ inr (said ∙ w.if-writes.false, w.found-is) ]),
-    )
+  omega arith,
+  pass_turn _ _ _ _ c.loop-k.invariant.1
+      (elim c.if-writes.branch [ then-writes w ↦ inl (said ∙ w.if-writes.true, w.found-is ∙ w.later-found.ensures) | else-writes w ↦ inr (said ∙ w.if-writes.false, w.found-is) ]),
+)
 
 pub returns : goal.returns
 unfolding binding_of

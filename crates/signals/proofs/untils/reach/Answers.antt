@@ -1,4 +1,3 @@
-use borrow.Author.Rules.{rules}
 use mathlib.Core.Path.{sym, ◌∙◌}
 use native.Mathlib.Nat.{max-eq_left, max-eq_right, le_of_lt}
 use native.Mathlib.Omega.{arith}

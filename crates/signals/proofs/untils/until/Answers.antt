@@ -1,12 +1,8 @@
 use mathlib.Core.Path.{◌≡◌, sym, ◌∙◌}
 use mathlib.Core.Logic.{inl, inr}
-use Prim.Native.Nat.{◌-◌, ◌≤◌}
 use native.Mathlib.Nat.{le_trans}
 use native.Mathlib.Omega.{arith}
 use borrow.Author.Rules.{rules}
-use Rattle.rules.specs.Table.{longest}
-use Rattle.rules.specs.Reading.{reads_in}
-use Rattle.signals.specs.Forms.{reach_below}
 use Rattle.signals.proofs.Lives.{next_within, until_reached}
 use Rattle.signals.proofs.Passes.{pass_none, pass_turn}
 use Rattle.signals.proofs.untils.until.Goals.{then-reads, else-reads}
@@ -37,13 +33,12 @@ pub loop-k-smaller : goal.loop-k-smaller
 loop-k-smaller c = omega arith
 
 pub loop-k-preserved : goal.loop-k-preserved
-loop-k-preserved c = let said = sym c.reads.ensures in
-    (
-      omega arith,
-      pass_turn _ _ _ _ c.loop-k.invariant.1
-          (elim c.if-reads.branch [ then-reads w ↦ inl (said ∙ w.if-reads.true, w.reached-is ∙ w.reach-reached.ensures) | else-reads w ↦ inr (said ∙ w.if-reads.false, w.reached-is) ]),
-      c.loop-k.invariant.2,
-    )
+loop-k-preserved c = let said = sym c.reads.ensures in (
+  omega arith,
+  pass_turn _ _ _ _ c.loop-k.invariant.1
+      (elim c.if-reads.branch [ then-reads w ↦ inl (said ∙ w.if-reads.true, w.reached-is ∙ w.reach-reached.ensures) | else-reads w ↦ inr (said ∙ w.if-reads.false, w.reached-is) ]),
+  c.loop-k.invariant.2,
+)
 
 pub returns : goal.returns
 returns c = let e : c.loop-k.k ≡ c.args.tasks.count = omega arith in

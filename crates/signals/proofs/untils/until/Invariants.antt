@@ -1,18 +1,12 @@
-use mathlib.Core.Path.{◌≡◌, sym, ◌∙◌}
-use mathlib.Core.Logic.{⊎_elim, inl, inr}
+use mathlib.Core.Path.{◌≡◌}
 use Prim.Native.Nat.{◌-◌, ◌≤◌}
-use native.Mathlib.Nat.{le_trans}
-use native.Mathlib.Omega.{arith}
-use borrow.Author.Rules.{rules}
 use Rattle.rules.specs.Table.{longest}
 use Rattle.rules.specs.Reading.{reads_in}
 use Rattle.signals.specs.Forms.{reach_below}
-use Rattle.signals.proofs.Lives.{next_within, until_reached}
-use Rattle.signals.proofs.Passes.{pass_none, pass_turn}
 use Rattle.signals.proofs.untils.until.Given as goal
+
 abbrev pub invariant-loop-k : goal.invariant-loop-k
 invariant-loop-k l = (l.k ≤ l.tasks.count) × (l.reached ≡ reach_below l.tasks (reads_in l.grid l.signal) l.published l.next l.k) × (l.next ≤ longest)
 
 abbrev pub decreases-loop-k : goal.decreases-loop-k
 decreases-loop-k l = l.tasks.count - l.k
-
