@@ -6,10 +6,10 @@ use mathlib.Core.List.{List}
 use native.Mathlib.Omega.{arith}
 use native.Mathlib.Nat.{div-one}
 use lib.Dec.{eqb}
-use lib.ListN.{length, get_or, replicate, length-replicate}
+use lib.ListN.{get_or, replicate, length-replicate}
 use Rattle.rules.specs.Words.{total, times, up_to}
 use Rattle.rules.specs.Windows.{Table, instances}
-use Rattle.rules.specs.Table.{most_tasks, most_signals, most_uses, words, uses}
+use Rattle.rules.specs.Table.{most_tasks, words, uses}
 use Rattle.rules.specs.Schedule.{Schedule, base}
 use Rattle.rules.specs.Bytes.{writers_below, readers_below, size_of, start_of, schedule_in}
 use Rattle.rules.specs.Reading.{cell_at, task_of, writes_in, reads_in}

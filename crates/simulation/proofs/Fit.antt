@@ -8,7 +8,7 @@ use lib.Dec.{leb, ltb, eqb}
 use lib.ListN.{replicate}
 use mathlib.Core.Logic.{◌⊎◌, inl, inr}
 use borrow.Author.Tests.{leb-true, le-leb, ltb-true, ltb-false, lt-ltb, eqb-true, eq-eqb}
-use Rattle.rules.specs.Words.{every, when}
+use Rattle.rules.specs.Words.{when}
 use Rattle.rules.specs.Table.{most_tasks, most_signals, most_uses, words, longest}
 use Rattle.rules.specs.declared.Answer.{Answer}
 use Rattle.theory.proofs.Tests.{split, both, and_is, or_cases, or_left, or_right}

@@ -7,8 +7,8 @@ use mathlib.Core.Option.{Option, none, some}
 use native.Mathlib.Omega.{arith}
 use native.Mathlib.Numerals.{add-one}
 use lib.Dec.{leb, ltb, eqb}
-use lib.ListN.{length, get_or, set, length-set, get_or-eq_default}
-use lib.Seq.{get_or-set_same, get_or-set_other, set_out}
+use lib.ListN.{length, get_or, length-set, get_or-eq_default}
+use lib.Seq.{get_or-set_same, set_out}
 use borrow.Author.Tests.{ltb-true, ltb-false, lt-ltb, le-ltb, lt-leb, le-leb, eq-eqb, ne_eqb, eqb-true, eqb-false}
 use Rattle.rules.specs.Words.{when, highest, maybe, up_to}
 use Rattle.rules.specs.Windows.{Table, opens, closes, instance, is_open, hyper, instances}

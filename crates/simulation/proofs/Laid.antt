@@ -1,6 +1,6 @@
 -- The numbers of a loading hold what the table and the schedule's bytes say. Assumes nothing.
 use Prim.Native.Nat.{ℕ, ◌+◌, ◌-◌, ◌*◌, ◌≤◌, ◌<◌}
-use mathlib.Core.Path.{◌≡◌, refl, sym, ap, ap₂, ◌∙◌}
+use mathlib.Core.Path.{◌≡◌, refl, sym, ap, ◌∙◌}
 use mathlib.Core.Bool.{Bool, true, ◌&&◌, cond}
 use mathlib.Core.List.{List}
 use mathlib.Core.Logic.{◌⊎◌, inl, inr}
@@ -20,10 +20,10 @@ use Rattle.rules.specs.Machine.{separate, seat}
 use Rattle.rules.specs.declared.Task.{Task}
 use Rattle.theory.proofs.Tests.{split, both, and_is, not_both}
 use Rattle.theory.proofs.Loops.{loop_keeps, loop_turn, loop_idle, loop_once, loop_seen}
-use Rattle.state.specs.Parts.{at, none, cells, cell, loaded, hyper, periods, starts, ends, counts, reads, writes, uses, carried, held, tick, numbers, last_kind}
+use Rattle.state.specs.Parts.{at, none, cells, cell, loaded, hyper, periods, starts, ends, counts, reads, writes, uses, carried, held, numbers, last_kind}
 use Rattle.state.proofs.Frames.{set_off}
-use Rattle.state.proofs.Sets.{turn, sets_length, sets_off, sets_at, alike}
-use Rattle.loading.specs.Laid.{blank, set_window, windows_laid, permits, uses_of, element_in, place_access, place_accesses, place_uses, fill_elements, signal_uses, used_before, base_before, signal_at, signal_laid, store_laid}
+use Rattle.state.proofs.Sets.{sets_length, sets_off, sets_at, alike}
+use Rattle.loading.specs.Laid.{blank, set_window, windows_laid, permits, uses_of, element_in, place_access, place_accesses, place_uses, fill_elements, signal_uses, base_before, signal_at, signal_laid, store_laid}
 use Rattle.loading.proofs.Sums.{used_next, used_up}
 use Rattle.machine.specs.Started.{Given, tab, made, counted, laid, filled, Checked}
 use Rattle.machine.proofs.Counted.{used, all_used, base_is, count_is}

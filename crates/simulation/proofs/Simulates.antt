@@ -6,7 +6,7 @@ use mathlib.Core.List.{List, [], ◌∷◌}
 use native.Mathlib.Omega.{arith}
 use native.Mathlib.Numerals.{add-one}
 use lib.Dec.{leb, ltb, eqb}
-use lib.ListN.{length, get_or, set, length-set}
+use lib.ListN.{length, set, length-set}
 use lib.Seq.{get_or-set_same}
 use borrow.Author.Tests.{ltb-true, lt-leb, leb-false}
 use Rattle.rules.specs.Words.{when}
@@ -29,9 +29,9 @@ use Rattle.state.specs.Parts as parts
 use Rattle.state.specs.Fitness as fitness
 use Rattle.state.specs.Rows.{use_of, save, published, released, advanced, openings, place_of}
 use Rattle.state.specs.declared.Place.{Place}
-use Rattle.state.proofs.Frames.{Off, set_off, tick_below, published_off, published_fit, released_off, released_fit, fit_tick}
+use Rattle.state.proofs.Frames.{set_off, tick_below, published_off, published_fit, released_off, released_fit, fit_tick}
 use Rattle.machine.specs.declared.Machine.{Machine}
-use Rattle.machine.specs.Calls.{keeping, fit, step_in, read_in, write_in, step_of, write_of}
+use Rattle.machine.specs.Calls.{keeping, step_in, read_in, write_in, step_of, write_of}
 use Rattle.simulation.specs.Simulates.{position_of, permits, Accesses, Knows, Runs, outcome_said, call_said, calls_said, call_leaves, Simulates, SimulatesAll}
 use Rattle.simulation.proofs.Follows.{inside_is, opened_is, closed_like, closed_is, closed_none, copied_is, released_long, released_at, load_is, save_is}
 

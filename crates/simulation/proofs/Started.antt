@@ -1,7 +1,7 @@
 -- A loading that the check accepts starts document 01's machine, which is fit. Assumes nothing.
 use Prim.Native.Nat.{ℕ, ◌+◌, ◌-◌, ◌≤◌, ◌<◌}
-use mathlib.Core.Path.{◌≡◌, refl, sym, ap, subst, ◌∙◌}
-use mathlib.Core.Bool.{Bool, true, false, ◌&&◌, ◌||◌, cond}
+use mathlib.Core.Path.{◌≡◌, refl, sym, ap, ◌∙◌}
+use mathlib.Core.Bool.{Bool, true, false, ◌&&◌, cond}
 use mathlib.Core.List.{List, map}
 use mathlib.Core.Logic.{inl, inr}
 use native.Mathlib.Omega.{arith}
@@ -10,16 +10,14 @@ use lib.ListN.{length, get_or, set, replicate, length-replicate}
 use borrow.Author.Tests.{ltb-true, ltb-false, lt-ltb, le-leb, le-ltb, ne_eqb, eq-eqb, eqb-true, eqb-false}
 use Rattle.rules.specs.Words.{total, times}
 use Rattle.rules.specs.Windows.{Table, instances, opens}
-use Rattle.rules.specs.Windows as windows
 use Rattle.rules.specs.Values.{by, bound, signal_of}
 use Rattle.rules.specs.Values as values
 use Rattle.rules.specs.Table.{words, Fits, most_tasks, most_signals, most_uses, longest}
 use Rattle.rules.specs.Schedule.{Schedule, element_of, base, Passes}
-use Rattle.rules.specs.Numbers.{Told, told}
-use Rattle.rules.specs.Answers.{check_says}
+use Rattle.rules.specs.Numbers.{Told}
 use Rattle.rules.specs.Reading.{writes_in, table_in}
 use Rattle.rules.specs.Loading.{load_says, accepts}
-use Rattle.rules.specs.Stores.{Memory, Place, nowhere}
+use Rattle.rules.specs.Stores.{Memory, nowhere}
 use Rattle.rules.specs.Machine.{Layout, separate, seat, loaded}
 use Rattle.theory.proofs.Tests.{split, both, and_is, or_right, not_both, holds}
 use Rattle.theory.proofs.Check.{every_is}
@@ -44,7 +42,7 @@ use Rattle.loading.proofs.Sums.{total_has, total_split, uses_next, uses_up}
 use Rattle.machine.specs.declared.Machine.{Machine}
 use Rattle.machine.specs.declared.Stepped.{Stepped}
 use Rattle.machine.specs.Calls.{fit}
-use Rattle.machine.specs.Started.{Given, tab, made, counted, laid, filled, started, Checked}
+use Rattle.machine.specs.Started.{Given, tab, made, counted, laid, started, Checked}
 use Rattle.machine.specs.Load.{given_by, load_leaves, Loads}
 use Rattle.machine.proofs.Counted.{used, count_of, count_none, writers_of, readers_of, reads_is, base_is, writer_is, reader_is}
 use Rattle.machine.proofs.Load.{checked, refused_stays}
@@ -55,7 +53,7 @@ use Rattle.simulation.specs.Loads.{StartsRight, AsMeant, LoadsRight, LoadsExact}
 use Rattle.simulation.proofs.Fit.{step_fits, write_fits}
 use Rattle.simulation.proofs.Follows.{opened_is, released_long, released_at}
 use Rattle.simulation.proofs.Simulates.{stays_known, simulates_all}
-use Rattle.simulation.proofs.Laid.{blank_loaded, blank_hyper, blank_zero, windowed, windowed_off, period_at, start_at, end_at, count_at, count_beyond, readers_from, uses_end, all, all_long, all_off, writes_at, reads_at, use_at, carried_at, filled_is}
+use Rattle.simulation.proofs.Laid.{blank_loaded, blank_hyper, blank_zero, windowed, windowed_off, period_at, start_at, end_at, count_at, count_beyond, readers_from, uses_end, all_long, all_off, writes_at, reads_at, use_at, carried_at, filled_is}
 
 -- what is needed of the accesses of one kind: which right they are by, where those to signal s begin, and which element each use has
 pub record Kind (g : Given) (C : Checked g) (kind right : ℕ) (first : ℕ → ℕ) (allowed : ℕ → ℕ → Bool) (element : ℕ → ℕ → ℕ → ℕ) : Type 0 where

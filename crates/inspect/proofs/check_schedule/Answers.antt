@@ -1,6 +1,5 @@
 -- `inspect::check_schedule` meets its contract: the table's refusal, else what the check with that table says.
 use mathlib.Core.Path.{sym, ◌∙◌}
-use borrow.Author.Rules.{rules}
 use Rattle.verdict.proofs.Loaded.{load_refused, load_accepted, load_checked}
 use Rattle.inspect.proofs.check_schedule.Goals as goal
 

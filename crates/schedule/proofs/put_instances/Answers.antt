@@ -1,14 +1,9 @@
 -- `put_instances` meets its contract: the instances below i are put, each after `first` and those before it.
 use mathlib.Core.Path.{◌≡◌, refl, ◌∙◌}
-use mathlib.Core.List.{List, [], ◌∷◌}
-use Prim.Native.Nat.{ℕ, ◌+◌, ◌*◌, ◌-◌, ◌≤◌}
+use mathlib.Core.List.{[], ◌∷◌}
 use native.Mathlib.Omega.{arith}
-use lib.ListN.{length}
-use Rattle.form.specs.declared.sides.Side.{Side}
-use Rattle.form.specs.Records.{mark_of, use_of, instance_parts}
-use Rattle.form.specs.Form.{walked}
+use Rattle.form.specs.Records.{use_of}
 use Rattle.form.proofs.Walks.{walked_none, walked_turn}
-use Rattle.schedule.specs.Writing.{put}
 use Rattle.schedule.proofs.Puts.{use_put_lem, use_length}
 use Rattle.schedule.proofs.put_instances.Goals as goal
 
@@ -44,12 +39,12 @@ loop-i-smaller c = omega arith
 
 pub loop-i-preserved : goal.loop-i-preserved
 loop-i-preserved c = let i = c.loop-i in (
-      omega arith,
-      omega arith,
-      refl,
-      use_length _ _ _ _ _ _ _ c.put_use.ensures ∙ i.invariant.3,
-      λ counts side e. walked_turn _ (λ i. use_of side _ _ i ∷ []) _ _ (i.invariant.4 counts side e) (use_put_lem _ _ side _ _ _ _ e refl c.put_use.ensures),
-    )
+  omega arith,
+  omega arith,
+  refl,
+  use_length _ _ _ _ _ _ _ c.put_use.ensures ∙ i.invariant.3,
+  λ counts side e. walked_turn _ (λ i. use_of side _ _ i ∷ []) _ _ (i.invariant.4 counts side e) (use_put_lem _ _ side _ _ _ _ e refl c.put_use.ensures),
+)
 
 pub returns : goal.returns
 returns c = let e : c.loop-i.i ≡ c.args.records = omega arith in

@@ -1,19 +1,16 @@
-use mathlib.Core.Path.{◌≡◌, refl, ◌∙◌}
-use mathlib.Core.List.{List, [], ◌∷◌}
+use mathlib.Core.Path.{◌≡◌}
+use mathlib.Core.List.{List}
 use Prim.Native.Nat.{ℕ, ◌+◌, ◌*◌, ◌-◌, ◌≤◌}
-use native.Mathlib.Omega.{arith}
 use lib.ListN.{length}
 use Rattle.form.specs.declared.sides.Side.{Side}
-use Rattle.form.specs.Records.{mark_of, use_of, instance_parts}
+use Rattle.form.specs.Records.{mark_of, instance_parts}
 use Rattle.form.specs.Form.{walked}
-use Rattle.form.proofs.Walks.{walked_none, walked_turn}
 use Rattle.schedule.specs.Writing.{put}
-use Rattle.schedule.proofs.Puts.{use_put_lem, use_length}
 use Rattle.schedule.proofs.put_instances.Given as goal
+
 abbrev pub invariant-loop-i : goal.invariant-loop-i
 invariant-loop-i l = (l.i ≤ l.records) × (l.used ≡ l.first + l.i) × (l.start ≡ 4 * (l.signal + 1)) × (length l.out ≡ length l.initial.out)
     × ((counts : List ℕ) (side : Side) → l.mark ≡ mark_of side → record { out = l.out; used = l.used } ≡ walked (put counts l.uses) (instance_parts side l.signal l.task l.i) (record { out = l.initial.out; used = l.first }))
 
 abbrev pub decreases-loop-i : goal.decreases-loop-i
 decreases-loop-i l = l.records - l.i
-

@@ -1,15 +1,9 @@
 -- `put_side` meets its contract: the tasks below k have put their records.
 use mathlib.Core.Path.{◌≡◌, refl}
-use mathlib.Core.List.{List}
-use Prim.Native.Nat.{ℕ, ◌+◌, ◌-◌, ◌≤◌}
 use native.Mathlib.Omega.{arith}
-use lib.ListN.{length}
-use borrow.Author.Rules.{rules}
-use Rattle.form.specs.Records.{mark_of, users_below, side_parts}
-use Rattle.form.specs.Form.{walked}
+use Rattle.form.specs.Records.{side_parts}
 use Rattle.form.proofs.Walks.{walked_none, walked_turn}
 use Rattle.form.proofs.Steps.{users_few}
-use Rattle.schedule.specs.Writing.{put}
 use Rattle.schedule.proofs.Puts.{users_none, users_more, task_put}
 use Rattle.schedule.proofs.put_side.Goals as goal
 

@@ -2,7 +2,6 @@
 use mathlib.Core.Path.{refl}
 use mathlib.Core.List.{[], ◌∷◌}
 use native.Mathlib.Omega.{arith}
-use borrow.Author.Rules.{rules}
 use Rattle.rules.specs.Bytes.{bf}
 use Rattle.form.specs.Records.{sides_parts, signal_parts}
 use Rattle.form.proofs.Walks.{walked_then}

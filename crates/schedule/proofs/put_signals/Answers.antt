@@ -1,12 +1,8 @@
 -- `put_signals` meets its contract: the signals below s have put their records.
 use mathlib.Core.Path.{◌≡◌, refl, sym}
-use Prim.Native.Nat.{◌-◌, ◌≤◌}
 use native.Mathlib.Omega.{arith}
-use lib.ListN.{length}
 use Rattle.form.specs.Records.{parts_in}
-use Rattle.form.specs.Form.{walked}
 use Rattle.form.proofs.Walks.{walked_none, walked_turn}
-use Rattle.schedule.specs.Writing.{put, uses_below}
 use Rattle.schedule.proofs.Puts.{uses_none, uses_more}
 use Rattle.schedule.proofs.put_signals.Goals as goal
 

@@ -1,5 +1,4 @@
 -- `put_use` meets its contract: its stores are one run of bytes.
-use borrow.Author.Rules.{rules}
 use native.Mathlib.Numerals.{add-one}
 use native.Mathlib.Omega.{arith}
 use lib.ListN.{length-set}

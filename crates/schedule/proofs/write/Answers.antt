@@ -1,10 +1,8 @@
 -- `write` meets its contract: all records, and EN after them.
-use borrow.Author.Rules.{rules}
 use mathlib.Core.List.{[]}
 use mathlib.Core.Path.{refl, ap}
 use Prim.Native.Nat.{◌+◌, ◌*◌, ◌≤◌}
 use native.Mathlib.Omega.{arith}
-use lib.ListN.{length}
 use Rattle.rules.specs.Table.{most_uses}
 use Rattle.rules.specs.declared.Signals.{Signals}
 use Rattle.form.proofs.Tables.{instances_short}

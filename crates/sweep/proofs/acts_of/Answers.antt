@@ -1,9 +1,8 @@
 -- `sweep::acts_of` meets its contract. The loop's invariant: the first k are there. Assumes nothing.
-use Prim.Native.Nat.{◌-◌, ◌<◌, ◌≤◌}
+use Prim.Native.Nat.{◌<◌}
 use mathlib.Core.Path.{◌≡◌, refl}
 use native.Mathlib.Omega.{arith}
 use Rattle.rules.specs.Table.{most_tasks}
-use Rattle.sweep.specs.Pass.{AreActs}
 use Rattle.sweep.proofs.Inspected.{acts_start, acts_more}
 use Rattle.sweep.proofs.acts_of.Goals as goal
 

@@ -1,7 +1,6 @@
 -- `sweep::publish_at` meets its contract. Assumes nothing.
 use borrow.Author.Tests.{eq-eqb, ne_eqb}
 use Rattle.sweep.specs.Pass.{closed_of}
-use borrow.Author.Rules.{rules}
 use Rattle.sweep.proofs.publish_at.Goals as goal
 
 pub returns-then-x-ne1 : goal.returns-then-x-ne1

@@ -1,6 +1,5 @@
 -- `sweep::records_of` meets its contract. Assumes nothing.
 use borrow.Author.Tests.{eq-eqb, ne_eqb}
-use borrow.Author.Rules.{rules}
 use Rattle.sweep.proofs.records_of.Goals as goal
 
 pub returns-then-cell-right-eq1 : goal.returns-then-cell-right-eq1

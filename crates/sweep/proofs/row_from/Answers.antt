@@ -1,8 +1,6 @@
 -- `sweep::row_from` meets its contract. The loop's invariant: the first k places are there. Assumes nothing.
-use Prim.Native.Nat.{◌-◌, ◌≤◌}
 use mathlib.Core.Path.{◌≡◌, refl}
 use native.Mathlib.Omega.{arith}
-use Rattle.sweep.specs.Pass.{IsRow}
 use Rattle.sweep.proofs.Rows.{row_starts, row_turn, row_room}
 use Rattle.sweep.proofs.row_from.Goals as goal
 

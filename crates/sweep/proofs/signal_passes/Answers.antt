@@ -1,10 +1,9 @@
 -- `sweep::signal_passes` meets its contract. The loop's invariant: what is left of the pass gives what the whole gives. Assumes nothing.
-use Prim.Native.Nat.{◌-◌, ◌≤◌}
 use mathlib.Core.Path.{◌≡◌, ap₂, ◌∙◌}
 use mathlib.Core.Logic.{inl, inr}
 use native.Mathlib.Omega.{arith}
-use Rattle.sweep.specs.Pass.{pass_of, AreActs, Inspects}
-use Rattle.sweep.proofs.Inspected.{handles, is_event, Left, pass_starts, pass_next, pass_right, count_within}
+use Rattle.sweep.specs.Pass.{pass_of}
+use Rattle.sweep.proofs.Inspected.{handles, is_event, pass_starts, pass_next, pass_right, count_within}
 use Rattle.sweep.proofs.signal_passes.Goals as goal
 use Rattle.sweep.proofs.signal_passes.Goals.{then-act-ne0, else-act-ne0}
 
@@ -71,12 +70,12 @@ loop-n-smaller c = omega arith
 
 pub loop-n-preserved : goal.loop-n-preserved
 loop-n-preserved c = let l = c.loop-n.invariant in (
-      l.0,
-      l.1,
-      omega arith,
-      pass_next _ _ _ _ _ _ _ l.0 _ _ _ _ _ _ c.loop-n-test.true l.1 l.3
-          (elim c.if-act-ne0.branch [ then-act-ne0 w ↦ inl (ap₂ pass_of w.held-is w.p-is ∙ w.handle-p.ensures) | else-act-ne0 w ↦ inr (w.if-act-ne0.false, ap₂ pass_of w.held-is w.p-is) ]),
-    )
+  l.0,
+  l.1,
+  omega arith,
+  pass_next _ _ _ _ _ _ _ l.0 _ _ _ _ _ _ c.loop-n-test.true l.1 l.3
+      (elim c.if-act-ne0.branch [ then-act-ne0 w ↦ inl (ap₂ pass_of w.held-is w.p-is ∙ w.handle-p.ensures) | else-act-ne0 w ↦ inr (w.if-act-ne0.false, ap₂ pass_of w.held-is w.p-is) ]),
+)
 
 pub returns : goal.returns
 returns c = let e : c.loop-n.n ≡ c.args.count = omega arith in

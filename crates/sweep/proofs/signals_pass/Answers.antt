@@ -1,12 +1,8 @@
 -- `sweep::signals_pass` meets its contract. The loop's invariant: the signals before s pass, and the records of s begin at `start`. Assumes nothing.
-use Prim.Native.Nat.{◌-◌, ◌≤◌}
-use mathlib.Core.Bool.{true}
 use mathlib.Core.Path.{◌≡◌, refl, sym, ap, ◌∙◌}
 use native.Mathlib.Numerals.{add-one}
 use native.Mathlib.Omega.{arith}
 use Rattle.rules.specs.Words.{total}
-use Rattle.rules.specs.Bytes.{size_of}
-use Rattle.sweep.specs.Pass.{grid_table, all_swept}
 use Rattle.sweep.proofs.Whole.{one, start_low, swept_none, swept_more, swept_fails}
 use Rattle.sweep.proofs.signals_pass.Goals as goal
 

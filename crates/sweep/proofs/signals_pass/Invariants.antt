@@ -1,16 +1,13 @@
 use Prim.Native.Nat.{◌-◌, ◌≤◌}
 use mathlib.Core.Bool.{true}
-use mathlib.Core.Path.{◌≡◌, refl, sym, ap, ◌∙◌}
-use native.Mathlib.Numerals.{add-one}
-use native.Mathlib.Omega.{arith}
+use mathlib.Core.Path.{◌≡◌}
 use Rattle.rules.specs.Words.{total}
 use Rattle.rules.specs.Bytes.{size_of}
 use Rattle.sweep.specs.Pass.{grid_table, all_swept}
-use Rattle.sweep.proofs.Whole.{one, start_low, swept_none, swept_more, swept_fails}
 use Rattle.sweep.proofs.signals_pass.Given as goal
+
 abbrev pub invariant-loop-s : goal.invariant-loop-s
 invariant-loop-s l = (l.s ≤ l.signals) × (l.start ≡ total (size_of (grid_table l.tasks l.grid)) l.s) × (all_swept l.tasks l.grid l.schedule l.s ≡ true)
 
 abbrev pub decreases-loop-s : goal.decreases-loop-s
 decreases-loop-s l = l.signals - l.s
-

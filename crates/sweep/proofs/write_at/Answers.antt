@@ -2,7 +2,6 @@
 use borrow.Author.Tests.{eq-eqb, ne_eqb}
 use native.Mathlib.Omega.{arith}
 use Rattle.sweep.specs.Pass.{wrote_of}
-use borrow.Author.Rules.{rules}
 use Rattle.sweep.proofs.write_at.Goals as goal
 
 pub returns-then-x-ne1 : goal.returns-then-x-ne1

@@ -1,6 +1,5 @@
 -- `verdict::check_with` meets its contract: the form's refusal, else done where the schedule passes, else the fault.
 use mathlib.Core.Path.{refl, sym, ap, ◌∙◌}
-use borrow.Author.Rules.{rules}
 use Rattle.rules.specs.Numbers.{Told}
 use Rattle.form.proofs.Parted.{ready, check_form}
 use Rattle.verdict.proofs.Formed.{number_said, form_done}

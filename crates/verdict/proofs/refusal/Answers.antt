@@ -1,6 +1,5 @@
 -- `verdict::refusal` meets its contract: 21 at the first fault of the readers, else what is said of the writers.
 use mathlib.Core.Path.{◌∙◌}
-use borrow.Author.Rules.{rules}
 use Rattle.verdict.proofs.Formed.{form_counted, wrong_says}
 use Rattle.verdict.proofs.refusal.Goals as goal
 

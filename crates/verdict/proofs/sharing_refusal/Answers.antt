@@ -1,5 +1,4 @@
 -- `verdict::sharing_refusal` meets its contract: 22 at the first fault of the writers, else done.
-use borrow.Author.Rules.{rules}
 use Rattle.verdict.proofs.Formed.{form_counted, shared_says}
 use Rattle.verdict.proofs.sharing_refusal.Goals as goal
 

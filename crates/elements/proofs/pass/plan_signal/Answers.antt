@@ -1,10 +1,9 @@
 -- `elements::pass::plan_signal` meets its contract. The loop's invariant: what is known is what the pass knows after n events. Assumes nothing.
 use mathlib.Core.Path.{◌≡◌, ap, ◌∙◌}
-use Prim.Native.Nat.{◌-◌, ◌≤◌}
 use native.Mathlib.Omega.{arith}
 use Rattle.theory.specs.Chosen.{Choice}
 use Rattle.elements.specs.Steps.{choice_of}
-use Rattle.elements.proofs.Signal.{After, after_none, after_all, after_low, counted, few, turns, after_turn}
+use Rattle.elements.proofs.Signal.{after_none, after_all, after_low, counted, few, turns, after_turn}
 use Rattle.elements.proofs.pass.plan_signal.Goals as goal
 
 pub bounds-held-0 : goal.bounds-held-0
@@ -48,9 +47,9 @@ bounds-tasks-k c = omega arith
 
 pub turn-state-requires : goal.turn-state-requires
 turn-state-requires c = (
-      turns c.args.tasks c.args.grid.now c.args.signal c.args.events.now c.args.count c.args.numbers c.requires c.loop-n.n (omega arith) _ _ c.reads.ensures c.writes.ensures,
-      after_low c.args.tasks c.args.grid.now c.args.signal c.args.uses.now c.loop-n.n (choice_of c.loop-n.held c.loop-n.own c.loop-n.uses c.loop-n.state) c.loop-n.invariant.1,
-    )
+  turns c.args.tasks c.args.grid.now c.args.signal c.args.events.now c.args.count c.args.numbers c.requires c.loop-n.n (omega arith) _ _ c.reads.ensures c.writes.ensures,
+  after_low c.args.tasks c.args.grid.now c.args.signal c.args.uses.now c.loop-n.n (choice_of c.loop-n.held c.loop-n.own c.loop-n.uses c.loop-n.state) c.loop-n.invariant.1,
+)
 
 pub overflow_add-n : goal.overflow_add-n
 overflow_add-n c = omega arith
@@ -60,9 +59,9 @@ loop-n-smaller c = omega arith
 
 pub loop-n-preserved : goal.loop-n-preserved
 loop-n-preserved c = let taken = c.loop-n-test.true in (
-      omega (arith, taken),
-      after_turn c.args.tasks c.args.grid.now c.args.signal c.args.events.now c.args.count c.args.numbers c.requires c.loop-n.n (omega (arith, taken)) c.args.uses.now _ _ _ _ c.reads.ensures c.writes.ensures c.loop-n.invariant.1 c.turn-state.ensures,
-    )
+  omega (arith, taken),
+  after_turn c.args.tasks c.args.grid.now c.args.signal c.args.events.now c.args.count c.args.numbers c.requires c.loop-n.n (omega (arith, taken)) c.args.uses.now _ _ _ _ c.reads.ensures c.writes.ensures c.loop-n.invariant.1 c.turn-state.ensures,
+)
 
 pub returns : goal.returns
 returns c = let e : c.loop-n.n ≡ c.args.count = omega arith in

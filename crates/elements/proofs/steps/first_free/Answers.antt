@@ -1,10 +1,7 @@
 -- `elements::steps::first_free` meets its contract. The loop's invariant: the elements below e are held. Assumes nothing.
-use Prim.Native.Nat.{ℕ, ◌-◌, ◌≤◌, ◌<◌}
 use mathlib.Core.Path.{sym}
 use native.Mathlib.Omega.{arith}
-use lib.ListN.{get_or}
 use borrow.Author.Count.{below_more}
-use Rattle.rules.specs.Table.{most_elements}
 use Rattle.elements.proofs.Passed.{free_in_lem}
 use Rattle.elements.proofs.steps.first_free.Goals as goal
 

@@ -1,5 +1,4 @@
 -- `elements::steps::publish` meets its contract. Assumes nothing.
-use borrow.Author.Rules.{rules}
 use Rattle.elements.proofs.steps.publish.Goals as goal
 
 pub returns : goal.returns

@@ -1,5 +1,4 @@
 -- `elements::steps::send` meets its contract. Assumes nothing.
-use borrow.Author.Rules.{rules}
 use Rattle.elements.proofs.steps.send.Goals as goal
 
 pub returns : goal.returns

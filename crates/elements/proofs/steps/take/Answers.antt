@@ -1,6 +1,5 @@
 -- `elements::steps::take` meets its contract. Assumes nothing.
 use Rattle.elements.proofs.Passed.{taken_is}
-use borrow.Author.Rules.{rules}
 use Rattle.elements.proofs.steps.take.Goals as goal
 
 pub returns : goal.returns

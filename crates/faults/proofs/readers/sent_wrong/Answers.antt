@@ -3,7 +3,6 @@ use mathlib.Core.Path.{ap₂, ◌∙◌}
 use mathlib.Core.Bool.{not}
 use native.Mathlib.Omega.{arith}
 use lib.Dec.{eqb}
-use borrow.Author.Rules.{rules}
 use Rattle.form.specs.declared.sides.Side.{Side}
 use Rattle.faults.proofs.Viewed.{place_is, read_is, within}
 use Rattle.faults.proofs.readers.sent_wrong.Goals as goal

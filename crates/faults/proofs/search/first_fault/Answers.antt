@@ -1,16 +1,9 @@
 -- `search::first_fault` meets its contract: no record of a signal below s is wrong, and those of s begin at `start`.
 use mathlib.Core.Path.{◌≡◌, refl, sym, ap, ◌∙◌}
-use Prim.Native.Nat.{◌-◌, ◌≤◌}
 use native.Mathlib.Numerals.{add-one}
 use native.Mathlib.Omega.{arith}
-use borrow.Author.Rules.{rules}
-use Rattle.rules.specs.Words.{total, gather}
-use Rattle.rules.specs.Bytes.{size_of, schedule_in}
-use Rattle.form.specs.Form.{walked}
+use Rattle.rules.specs.Words.{total}
 use Rattle.form.proofs.Walks.{walked_none, walked_turn, walked_stopped}
-use Rattle.sweep.specs.Pass.{grid_table}
-use Rattle.faults.specs.declared.Fault.{Fault}
-use Rattle.faults.specs.Faults.{read_table, side_of, wrong_of, seek}
 use Rattle.faults.proofs.Viewed.{places_asked, seen}
 use Rattle.faults.proofs.Searched.{search_says}
 use Rattle.faults.proofs.search.first_fault.Goals as goal
@@ -38,10 +31,10 @@ loop-s-smaller c = omega arith
 
 pub loop-s-preserved : goal.loop-s-preserved
 loop-s-preserved c = (
-      omega (arith, c.loop-s-test.true),
-      c.places_at-located.ensures.1 ∙ ap (total _) (sym (add-one _)),
-      walked_turn _ _ _ _ c.loop-s.invariant.2 (sym c.in-Nowhere.is ∙ c.signal_fault.ensures),
-    )
+  omega (arith, c.loop-s-test.true),
+  c.places_at-located.ensures.1 ∙ ap (total _) (sym (add-one _)),
+  walked_turn _ _ _ _ c.loop-s.invariant.2 (sym c.in-Nowhere.is ∙ c.signal_fault.ensures),
+)
 
 pub returns : goal.returns
 returns c = let e : c.loop-s.s ≡ c.args.read.signals.count = omega (arith, c.loop-s.invariant.0, c.loop-s-test.false) in

@@ -1,6 +1,5 @@
 -- `search::is_wrong` meets its contract, side by side.
 use mathlib.Core.Path.{subst}
-use borrow.Author.Rules.{rules}
 use Rattle.form.specs.declared.sides.Side.{Side}
 use Rattle.faults.specs.Faults.{Has, KeptFor}
 use Rattle.faults.proofs.Searched.{wrong_on}

@@ -1,7 +1,6 @@
 -- `search::records_of` meets its contract.
 use mathlib.Core.Path.{sym, ◌∙◌}
 use native.Mathlib.Omega.{arith}
-use borrow.Author.Rules.{rules}
 use borrow.Author.Tests.{not-false}
 use Rattle.theory.proofs.Tests.{not_is}
 use Rattle.form.proofs.Steps.{no_times}

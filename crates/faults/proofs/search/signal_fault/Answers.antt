@@ -1,12 +1,8 @@
 -- `search::signal_fault` meets its contract: no record of a task below k is wrong.
 use mathlib.Core.Path.{◌≡◌, refl, sym, ◌∙◌}
-use Prim.Native.Nat.{◌-◌, ◌≤◌}
 use native.Mathlib.Omega.{arith}
-use borrow.Author.Rules.{rules}
-use Rattle.form.specs.Form.{walked}
 use Rattle.form.proofs.Walks.{walked_none, walked_turn, walked_stopped}
-use Rattle.faults.specs.declared.Fault.{Fault}
-use Rattle.faults.specs.Faults.{view_table, view_schedule, side_of, wrong_of, seek}
+use Rattle.faults.specs.Faults.{side_of}
 use Rattle.faults.proofs.search.signal_fault.Goals as goal
 
 pub keep_for-requires : goal.keep_for-requires

@@ -1,6 +1,5 @@
 -- `search::start_of` meets its contract, side by side.
 use native.Mathlib.Omega.{arith}
-use borrow.Author.Rules.{rules}
 use Rattle.faults.proofs.Viewed.{first_on}
 use Rattle.faults.proofs.search.start_of.Goals as goal
 

@@ -1,13 +1,10 @@
 -- `search::task_fault` meets its contract: no instance below i is wrong.
 use mathlib.Core.Path.{◌≡◌, refl, sym, ◌∙◌}
 use mathlib.Core.List.{[], ◌∷◌}
-use Prim.Native.Nat.{◌-◌, ◌≤◌}
 use native.Mathlib.Omega.{arith}
-use Rattle.form.specs.Records.{use_of, instance_parts}
-use Rattle.form.specs.Form.{walked}
+use Rattle.form.specs.Records.{use_of}
 use Rattle.form.proofs.Walks.{walked_none, walked_turn, walked_stopped}
 use Rattle.faults.specs.declared.Fault.{Fault}
-use Rattle.faults.specs.Faults.{view_table, view_schedule, wrong_of, seek}
 use Rattle.faults.proofs.Viewed.{has_of, place_is}
 use Rattle.faults.proofs.Searched.{one_passed, one_found, all_walked}
 use Rattle.faults.proofs.search.task_fault.Goals as goal

@@ -1,12 +1,11 @@
 -- `sharing::apart_from` meets its contract: no instance below i clashes.
-use mathlib.Core.Path.{◌≡◌, ap, ◌∙◌}
-use mathlib.Core.Bool.{true, not}
-use Prim.Native.Nat.{ℕ, ◌-◌, ◌≤◌, ◌<◌}
+use mathlib.Core.Path.{ap, ◌∙◌}
+use mathlib.Core.Bool.{not}
 use native.Mathlib.Omega.{arith}
 use borrow.Author.Rules.{rules}
 use borrow.Author.Count.{below_none, below_more}
 use Rattle.table.proofs.Clashes.{every_fails, every_holds}
-use Rattle.faults.specs.Faults.{held_at, clashing, apart_from}
+use Rattle.faults.specs.Faults.{apart_from}
 use Rattle.faults.proofs.Viewed.{same_clash}
 use Rattle.faults.proofs.sharing.apart_from.Goals as goal
 

@@ -1,16 +1,11 @@
-use mathlib.Core.Path.{◌≡◌, ap, ◌∙◌}
+use mathlib.Core.Path.{◌≡◌}
 use mathlib.Core.Bool.{true, not}
 use Prim.Native.Nat.{ℕ, ◌-◌, ◌≤◌, ◌<◌}
-use native.Mathlib.Omega.{arith}
-use borrow.Author.Rules.{rules}
-use borrow.Author.Count.{below_none, below_more}
-use Rattle.table.proofs.Clashes.{every_fails, every_holds}
-use Rattle.faults.specs.Faults.{held_at, clashing, apart_from}
-use Rattle.faults.proofs.Viewed.{same_clash}
+use Rattle.faults.specs.Faults.{held_at, clashing}
 use Rattle.faults.proofs.sharing.apart_from.Given as goal
+
 abbrev pub invariant-loop-i : goal.invariant-loop-i
 invariant-loop-i l = (l.i ≤ l.records) × ((j : ℕ) → j < l.i → not (clashing (held_at l.writer l.untils l.schedule j) l.held) ≡ true)
 
 abbrev pub decreases-loop-i : goal.decreases-loop-i
 decreases-loop-i l = l.records - l.i
-

@@ -1,15 +1,11 @@
 -- `sharing::apart_from_earlier` meets its contract: no instance of a task below k clashes.
-use mathlib.Core.Path.{◌≡◌, refl, sym, ◌∙◌}
-use mathlib.Core.Bool.{true}
-use Prim.Native.Nat.{ℕ, ◌-◌, ◌≤◌, ◌<◌}
+use mathlib.Core.Path.{refl, sym, ◌∙◌}
 use native.Mathlib.Omega.{arith}
 use borrow.Author.Rules.{rules}
 use borrow.Author.Count.{below_none, below_more}
 use borrow.Author.Tests.{not-false}
-use Rattle.rules.specs.Values.{by}
 use Rattle.theory.proofs.Tests.{not_is}
 use Rattle.form.specs.declared.sides.Side.{Side}
-use Rattle.faults.specs.Faults.{view_table, view_schedule, records_in, held_of, apart_from}
 use Rattle.faults.proofs.Viewed.{has_of, has_below}
 use Rattle.faults.proofs.Clashing.{apart_is, earlier_fails, earlier_holds}
 use Rattle.faults.proofs.Numbered.{writers_asked, in_reach}
@@ -39,10 +35,10 @@ loop-k-smaller c = omega arith
 
 pub loop-k-preserved : goal.loop-k-preserved
 loop-k-preserved c = (
-      omega arith,
-      below_more _ _ c.loop-k.invariant.1
-          (apart_is _ _ _ c.requires.0 c.args.untils.now c.requires.1 _ (omega (arith, c.loop-k-test.true, c.requires.2.0)) c.writer_of.ensures _ (omega (arith, c.records_of-records.ensures)) c.records_of-records.ensures c.apart_from.ensures ∙ not-false _ c.if-not-apart_from.false-raw),
-    )
+  omega arith,
+  below_more _ _ c.loop-k.invariant.1
+      (apart_is _ _ _ c.requires.0 c.args.untils.now c.requires.1 _ (omega (arith, c.loop-k-test.true, c.requires.2.0)) c.writer_of.ensures _ (omega (arith, c.records_of-records.ensures)) c.records_of-records.ensures c.apart_from.ensures ∙ not-false _ c.if-not-apart_from.false-raw),
+)
 
 pub writer_of-requires-2 : goal.writer_of-requires-2
 writer_of-requires-2 c = writers_asked _ _ _ c.requires.0 _ c.requires.2.0

@@ -1,21 +1,13 @@
-use mathlib.Core.Path.{◌≡◌, refl, sym, ◌∙◌}
+use mathlib.Core.Path.{◌≡◌}
 use mathlib.Core.Bool.{true}
 use Prim.Native.Nat.{ℕ, ◌-◌, ◌≤◌, ◌<◌}
-use native.Mathlib.Omega.{arith}
-use borrow.Author.Rules.{rules}
-use borrow.Author.Count.{below_none, below_more}
-use borrow.Author.Tests.{not-false}
 use Rattle.rules.specs.Values.{by}
-use Rattle.theory.proofs.Tests.{not_is}
 use Rattle.form.specs.declared.sides.Side.{Side}
 use Rattle.faults.specs.Faults.{view_table, view_schedule, records_in, held_of, apart_from}
-use Rattle.faults.proofs.Viewed.{has_of, has_below}
-use Rattle.faults.proofs.Clashing.{apart_is, earlier_fails, earlier_holds}
-use Rattle.faults.proofs.Numbered.{writers_asked, in_reach}
 use Rattle.faults.proofs.sharing.apart_from_earlier.Given as goal
+
 abbrev pub invariant-loop-k : goal.invariant-loop-k
 invariant-loop-k l = (l.k ≤ l.task) × ((j : ℕ) → j < l.k → apart_from (λ i. held_of (view_table l.view l.grid) (view_schedule l.view l.grid l.schedule) (by l.view.signal j i)) l.held (records_in (view_table l.view l.grid) l.grid Side.Writers l.view.signal j) ≡ true)
 
 abbrev pub decreases-loop-k : goal.decreases-loop-k
 decreases-loop-k l = l.task - l.k
-

@@ -1,6 +1,5 @@
 -- `sharing::shares` meets its contract: the carried value first, then the earlier ones.
 use mathlib.Core.Path.{◌∙◌}
-use borrow.Author.Rules.{rules}
 use Rattle.faults.proofs.Clashing.{shares_carried, shares_earlier}
 use Rattle.faults.proofs.Numbered.{writers_asked, in_reach, value_is}
 use Rattle.faults.proofs.sharing.shares.Goals as goal

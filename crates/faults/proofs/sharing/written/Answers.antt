@@ -1,6 +1,5 @@
 -- `sharing::written` meets its contract.
 use mathlib.Core.Path.{refl}
-use borrow.Author.Rules.{rules}
 use Rattle.faults.proofs.Viewed.{held_is}
 use Rattle.faults.proofs.sharing.written.Goals as goal
 

@@ -1,11 +1,9 @@
 -- `untils::keep_all` meets its contract: the values of the tasks below k are kept.
 use mathlib.Core.Path.{◌≡◌, sym, ap}
-use Prim.Native.Nat.{◌-◌, ◌≤◌}
 use native.Mathlib.Numerals.{add-one}
 use native.Mathlib.Omega.{arith}
-use borrow.Author.Rules.{rules}
 use Rattle.rules.specs.Values.{carried}
-use Rattle.faults.specs.Faults.{number_of, KeptTo}
+use Rattle.faults.specs.Faults.{number_of}
 use Rattle.faults.proofs.Viewed.{view_ready, until_of_lem}
 use Rattle.faults.proofs.Numbered.{kept_none, kept_at}
 use Rattle.faults.proofs.untils.keep_all.Goals as goal

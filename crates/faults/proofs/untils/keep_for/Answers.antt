@@ -1,5 +1,4 @@
 -- `untils::keep_for` meets its contract, side by side.
-use borrow.Author.Rules.{rules}
 use Rattle.faults.proofs.Numbered.{kept_readers, kept_writers}
 use Rattle.faults.proofs.untils.keep_for.Goals as goal
 

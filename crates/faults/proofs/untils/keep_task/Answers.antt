@@ -1,9 +1,6 @@
 -- `untils::keep_task` meets its contract: the values of the earlier tasks and of the instances below i are kept.
-use Prim.Native.Nat.{◌-◌, ◌≤◌}
 use native.Mathlib.Omega.{arith}
-use borrow.Author.Rules.{rules}
 use Rattle.form.specs.declared.sides.Side.{Side}
-use Rattle.faults.specs.Faults.{number_of, KeptBelow}
 use Rattle.faults.proofs.Viewed.{has_of}
 use Rattle.faults.proofs.Numbered.{writers_asked, number_is, room, numbers_more, kept_more, kept_at}
 use Rattle.faults.proofs.untils.keep_task.Goals as goal

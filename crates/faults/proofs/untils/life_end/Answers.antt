@@ -1,6 +1,5 @@
 -- `untils::life_end` meets its contract.
 use native.Mathlib.Omega.{arith}
-use borrow.Author.Rules.{rules}
 use Rattle.rules.specs.Values.{by}
 use Rattle.form.specs.declared.sides.Side.{Side}
 use Rattle.faults.proofs.Viewed.{view_ready, within, is_written, until_of_lem}

@@ -1,5 +1,4 @@
 -- `forms::bf_stands` meets its contract: the tests follow the definition's order.
-use borrow.Author.Rules.{rules}
 use Rattle.fields.proofs.Whens.{ladder}
 use Rattle.form.specs.Form.{bf_stands}
 use Rattle.form.proofs.Steps.{same_eqb}

@@ -1,5 +1,4 @@
 -- `forms::both_sides` meets its contract: the readers after the writers.
-use borrow.Author.Rules.{rules}
 use mathlib.Core.Path.{refl, sym, ◌∙◌}
 use Rattle.form.specs.Records.{sides_parts}
 use Rattle.form.proofs.Walks.{walked_then, walked_past}

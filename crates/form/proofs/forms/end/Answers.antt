@@ -1,8 +1,5 @@
 -- `forms::end` meets its contract: EN is whole and right, nothing comes after it, and the sum has room.
-use borrow.Author.Rules.{rules}
 use native.Mathlib.Omega.{arith}
-use Prim.Native.Nat.{◌+◌, ◌≤◌}
-use lib.ListN.{length}
 use Rattle.fields.proofs.Tested.{granted, room}
 use Rattle.fields.proofs.Whens.{ladder}
 use Rattle.form.specs.Form.{end_step}

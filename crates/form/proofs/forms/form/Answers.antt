@@ -1,5 +1,4 @@
 -- `forms::form` meets its contract: the walk over the records, and its end.
-use borrow.Author.Rules.{rules}
 use mathlib.Core.Path.{sym, ap, ◌∙◌}
 use Rattle.form.specs.Form.{end_of}
 use Rattle.form.proofs.Formed.{form_is}

@@ -1,13 +1,8 @@
 -- `forms::instance_records` meets its contract: the instances below i are walked, or one of them is wrong and none after it counts.
 use mathlib.Core.Path.{◌≡◌, refl}
 use mathlib.Core.List.{[], ◌∷◌}
-use Prim.Native.Nat.{◌-◌, ◌≤◌}
 use native.Mathlib.Omega.{arith}
-use borrow.Author.Rules.{rules}
-use Rattle.form.specs.declared.sides.Side.{Side}
-use Rattle.form.specs.declared.forms.Walk.{Walk}
-use Rattle.form.specs.Records.{mark_of, use_of, instance_parts}
-use Rattle.form.specs.Form.{walked, step}
+use Rattle.form.specs.Records.{use_of}
 use Rattle.form.proofs.Walks.{walked_none, walked_turn, walked_stopped}
 use Rattle.form.proofs.Steps.{use_walked}
 use Rattle.form.proofs.forms.instance_records.Goals as goal

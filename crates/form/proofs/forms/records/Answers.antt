@@ -1,12 +1,9 @@
 -- `forms::records` meets its contract: the signals below s are walked, or a record is wrong and none after it counts.
 use mathlib.Core.Path.{◌≡◌, refl, sym, ◌∙◌}
-use Prim.Native.Nat.{◌-◌, ◌*◌, ◌≤◌}
+use Prim.Native.Nat.{◌*◌, ◌≤◌}
 use native.Mathlib.Omega.{arith}
-use borrow.Author.Rules.{rules}
-use Rattle.rules.specs.Table.{most_signals, most_elements}
-use Rattle.form.specs.declared.forms.Walk.{Walk}
+use Rattle.rules.specs.Table.{most_elements}
 use Rattle.form.specs.Records.{parts_in}
-use Rattle.form.specs.Form.{walked, step}
 use Rattle.form.proofs.Walks.{walked_none, walked_turn, walked_stopped}
 use Rattle.form.proofs.Running.{sum_small}
 use Rattle.form.proofs.forms.records.Goals as goal
@@ -16,8 +13,12 @@ unfolding parts_in
 loop-s-init c = (omega arith, walked_none _ _ _)
 
 pub signal_records-requires : goal.signal_records-requires
-signal_records-requires c = (omega arith, omega arith, (let h : c.loop-s.place.sum ≤ most_elements * c.loop-s.s = sum_small _ _ _ _ _ c.loop-s.invariant.1 in
-    omega arith))
+signal_records-requires c = (
+  omega arith,
+  omega arith,
+  (let h : c.loop-s.place.sum ≤ most_elements * c.loop-s.s = sum_small _ _ _ _ _ c.loop-s.invariant.1 in
+      omega arith),
+)
 
 pub returns-in-Wrong : goal.returns-in-Wrong
 unfolding parts_in

@@ -1,11 +1,7 @@
 -- `forms::side_records` meets its contract: the tasks below k are walked, or a record is wrong and none after it counts.
 use mathlib.Core.Path.{◌≡◌, refl}
-use Prim.Native.Nat.{◌-◌, ◌≤◌}
 use native.Mathlib.Omega.{arith}
-use borrow.Author.Rules.{rules}
-use Rattle.form.specs.declared.forms.Walk.{Walk}
-use Rattle.form.specs.Records.{mark_of, side_parts}
-use Rattle.form.specs.Form.{walked, step}
+use Rattle.form.specs.Records.{side_parts}
 use Rattle.form.proofs.Walks.{walked_none, walked_turn, walked_stopped}
 use Rattle.form.proofs.Steps.{task_walked}
 use Rattle.form.proofs.forms.side_records.Goals as goal

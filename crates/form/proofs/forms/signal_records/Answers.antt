@@ -1,5 +1,4 @@
 -- `forms::signal_records` meets its contract: both sides after the signal's own record.
-use borrow.Author.Rules.{rules}
 use mathlib.Core.List.{[], ◌∷◌}
 use mathlib.Core.Path.{refl, sym, ◌∙◌}
 use Rattle.rules.specs.Bytes.{bf}

@@ -1,8 +1,5 @@
 -- `forms::use_record` meets its contract: whole, fixed bytes, element, in this order.
-use borrow.Author.Rules.{rules}
 use native.Mathlib.Omega.{arith}
-use Prim.Native.Nat.{◌+◌, ◌≤◌}
-use lib.ListN.{length}
 use Rattle.fields.proofs.Tested.{granted, room}
 use Rattle.fields.proofs.Whens.{ladder}
 use Rattle.form.specs.Form.{use_step}

@@ -1,5 +1,4 @@
 -- `forms::use_stands` meets its contract: the tests follow the definition's order.
-use borrow.Author.Rules.{rules}
 use Rattle.fields.proofs.Whens.{ladder}
 use Rattle.form.specs.Form.{use_stands}
 use Rattle.form.proofs.forms.use_stands.Goals as goal

@@ -1,5 +1,4 @@
 -- `lengths::length` meets its contract.
-use borrow.Author.Rules.{rules}
 use mathlib.Core.Path.{ap, ◌∙◌}
 use Prim.Native.Nat.{◌+◌}
 use Rattle.form.proofs.Tables.{instances_short, length_is}

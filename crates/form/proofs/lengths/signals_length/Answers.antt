@@ -1,9 +1,6 @@
 -- `lengths::signals_length` meets its contract: the sum over the signals below s.
 use mathlib.Core.Path.{◌≡◌, refl}
-use Prim.Native.Nat.{◌-◌, ◌*◌, ◌≤◌}
 use native.Mathlib.Omega.{arith}
-use Rattle.rules.specs.Words.{total}
-use Rattle.form.specs.Records.{longest_signal, signal_bytes}
 use Rattle.form.proofs.Steps.{total_none, total_turn}
 use Rattle.form.proofs.lengths.signals_length.Goals as goal
 

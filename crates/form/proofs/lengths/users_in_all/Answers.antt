@@ -1,8 +1,6 @@
 -- `lengths::users_in_all` meets its contract: the sum over the tasks below k.
 use mathlib.Core.Path.{◌≡◌, refl}
-use Prim.Native.Nat.{◌-◌, ◌*◌, ◌≤◌}
 use native.Mathlib.Omega.{arith}
-use Rattle.rules.specs.Table.{longest}
 use Rattle.form.specs.Records.{users_below}
 use Rattle.form.proofs.Steps.{users_few, total_none, total_turn}
 use Rattle.form.proofs.lengths.users_in_all.Goals as goal

@@ -1,13 +1,11 @@
 -- `sides::instances_of` meets its contract: the tasks below k have their instances.
 use borrow.Author.Rules.{rules}
 use borrow.Author.Count.{below_none}
-use mathlib.Core.Path.{◌≡◌, refl, ◌∙◌}
-use Prim.Native.Nat.{ℕ, ◌-◌, ◌/◌, ◌≤◌, ◌<◌}
+use mathlib.Core.Path.{refl, ◌∙◌}
+use Prim.Native.Nat.{◌/◌}
 use native.Mathlib.Omega.{arith}
-use native.Mathlib.Nat.{div-le_self}
-use lib.ListN.{get_or, length, length-set}
+use lib.ListN.{length-set}
 use Rattle.rules.specs.Reading.{task_of}
-use Rattle.rules.specs.Table.{most_tasks}
 use Rattle.windows.proofs.Windows.{period_pos}
 use Rattle.form.proofs.Steps.{stored_more}
 use Rattle.form.proofs.sides.instances_of.Goals as goal

@@ -1,5 +1,4 @@
 -- `sides::permitted` meets its contract, side by side.
-use borrow.Author.Rules.{rules}
 use Rattle.form.proofs.Steps.{permits_on}
 use Rattle.form.proofs.sides.permitted.Goals as goal
 

@@ -1,5 +1,4 @@
 -- `sides::users` meets its contract.
-use borrow.Author.Rules.{rules}
 use mathlib.Core.Path.{sym, ◌∙◌}
 use Rattle.form.specs.Records.{users_of}
 use Rattle.form.proofs.Steps.{all_times, no_times}

@@ -1,5 +1,4 @@
 -- As over lent lists.
-use borrow.Author.Rules.{rules}
 use mathlib.Core.Path.{ap}
 use Rattle.machine.specs.Calls.{leaving}
 use Rattle.machine.proofs.Machine.step.Goals as goal

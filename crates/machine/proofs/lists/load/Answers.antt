@@ -1,6 +1,5 @@
 -- Loading: the table refused, the schedule refused, or both accepted.
 use mathlib.Core.Path.{sym, ◌∙◌}
-use borrow.Author.Rules.{rules}
 use Rattle.verdict.proofs.Loaded.{load_accepted, load_checked}
 use Rattle.machine.proofs.Load.{table_refused, refused_loads, both_checked, accepted_loads}
 use Rattle.machine.proofs.lists.load.Goals as goal

@@ -1,5 +1,4 @@
 -- The tests follow the definition's order.
-use borrow.Author.Rules.{rules}
 use mathlib.Core.Path.{sym, ap, ◌∙◌}
 use Rattle.fields.proofs.Whens.{ladder}
 use Rattle.machine.specs.Calls.{open_at, open_in}

@@ -1,5 +1,4 @@
 -- The tests follow the definition's order.
-use borrow.Author.Rules.{rules}
 use mathlib.Core.Path.{sym, ap, ◌∙◌}
 use Rattle.rules.specs.declared.Answer.{Answer}
 use Rattle.fields.proofs.Whens.{ladder}

@@ -1,5 +1,4 @@
 -- The windows and the signals, then tick 0 opens.
-use borrow.Author.Rules.{rules}
 use Rattle.machine.specs.Started.{given}
 use Rattle.machine.proofs.Counted.{windowed, hyper_narrow, room, started_is}
 use Rattle.machine.proofs.lists.start.Goals as goal

@@ -1,5 +1,4 @@
 -- Closings, the next tick, openings, one after the other.
-use borrow.Author.Rules.{rules}
 use mathlib.Core.Path.{◌≡◌}
 use Rattle.rules.specs.declared.Answer.{Answer}
 use Rattle.fields.proofs.Whens.{ladder}

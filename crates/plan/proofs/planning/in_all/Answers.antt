@@ -1,9 +1,6 @@
 -- `plan::planning::in_all` meets its contract. The loop's invariant: the sum over the signals below s. Assumes nothing.
 use mathlib.Core.Path.{◌≡◌, refl}
-use Prim.Native.Nat.{◌*◌, ◌-◌, ◌≤◌}
 use native.Mathlib.Omega.{arith}
-use lib.ListN.{get_or}
-use Rattle.rules.specs.Words.{total}
 use Rattle.form.proofs.Steps.{total_none, total_turn}
 use Rattle.plan.proofs.planning.in_all.Goals as goal
 

@@ -1,5 +1,4 @@
 -- `plan::planning::plan` meets its contract. Assumes nothing.
-use borrow.Author.Rules.{rules}
 use Rattle.plan.proofs.Told.{refused, fits, accepted}
 use Rattle.plan.proofs.planning.plan.Goals as goal
 

@@ -1,7 +1,6 @@
 -- `plan::planning::plan_table` meets its contract. Assumes nothing.
 use mathlib.Core.List.{◌++◌}
 use mathlib.Core.Path.{refl, ap, ◌∙◌}
-use borrow.Author.Rules.{rules}
 use native.Mathlib.Omega.{arith}
 use lib.ListN.{drop, length}
 use Rattle.rules.specs.Numbers.{tell}

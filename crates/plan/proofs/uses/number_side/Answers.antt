@@ -1,14 +1,12 @@
 -- `plan::uses::number_side` meets its contract. The loop's invariant: the tasks below k are numbered. Assumes nothing.
 use mathlib.Core.Path.{◌≡◌, refl}
-use Prim.Native.Nat.{◌+◌, ◌-◌, ◌≤◌}
+use Prim.Native.Nat.{◌+◌}
 use native.Mathlib.Nat.{not-suc-le-zero}
 use native.Mathlib.Omega.{arith}
-use lib.ListN.{length, length-set}
-use Rattle.rules.specs.Table.{most_tasks}
+use lib.ListN.{length-set}
 use Rattle.form.specs.Records.{users_below}
 use Rattle.form.proofs.Steps.{stored_more}
 use Rattle.schedule.proofs.Puts.{users_more, users_none}
-use Rattle.plan.specs.Uses.{NumberedFrom}
 use Rattle.plan.proofs.uses.number_side.Goals as goal
 
 pub loop-k-init : goal.loop-k-init

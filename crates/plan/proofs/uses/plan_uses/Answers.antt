@@ -1,9 +1,7 @@
 -- `plan::uses::plan_uses` meets its contract. The loop's invariant: the signals below s are planned. Assumes nothing.
 use mathlib.Core.Path.{◌≡◌, refl}
-use Prim.Native.Nat.{◌-◌, ◌≤◌}
 use native.Mathlib.Numerals.{add-one}
 use native.Mathlib.Omega.{arith}
-use Rattle.theory.specs.Chosen.{first_use}
 use Rattle.elements.specs.Pass.{pass_table}
 use Rattle.elements.proofs.Signal.{few_elements}
 use Rattle.plan.specs.Uses.{uses_planned, counts_planned}

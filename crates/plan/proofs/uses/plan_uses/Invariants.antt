@@ -1,16 +1,12 @@
-use mathlib.Core.Path.{◌≡◌, refl}
+use mathlib.Core.Path.{◌≡◌}
 use Prim.Native.Nat.{◌-◌, ◌≤◌}
-use native.Mathlib.Numerals.{add-one}
-use native.Mathlib.Omega.{arith}
 use Rattle.theory.specs.Chosen.{first_use}
 use Rattle.elements.specs.Pass.{pass_table}
-use Rattle.elements.proofs.Signal.{few_elements}
 use Rattle.plan.specs.Uses.{uses_planned, counts_planned}
-use Rattle.plan.proofs.Laying.{first_none, table_ready, first_more, pass_ready, counts_turn, uses_turn}
 use Rattle.plan.proofs.uses.plan_uses.Given as goal
+
 abbrev pub invariant-loop-s : goal.invariant-loop-s
 invariant-loop-s l = (l.s ≤ l.signals) × (l.first ≡ first_use (pass_table l.tasks l.grid) l.s) × (l.counts ≡ counts_planned (pass_table l.tasks l.grid) l.initial.counts l.initial.uses l.s) × (l.uses ≡ uses_planned (pass_table l.tasks l.grid) l.initial.uses l.s)
 
 abbrev pub decreases-loop-s : goal.decreases-loop-s
 decreases-loop-s l = l.signals - l.s
-

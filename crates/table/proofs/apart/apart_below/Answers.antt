@@ -1,11 +1,9 @@
-use mathlib.Core.Path.{◌≡◌, sym, ap, ◌∙◌}
-use mathlib.Core.Bool.{true, not, ◌||◌}
-use Prim.Native.Nat.{ℕ, ◌-◌, ◌≤◌, ◌<◌}
+use mathlib.Core.Path.{sym, ap, ◌∙◌}
+use mathlib.Core.Bool.{not}
 use native.Mathlib.Omega.{arith}
 use borrow.Author.Rules.{rules}
 use borrow.Author.Count.{below_none, below_more}
-use Rattle.rules.specs.Reading.{task_of, writes_in}
-use Rattle.table.specs.Forms.{meets, apart_below}
+use Rattle.table.specs.Forms.{apart_below}
 use Rattle.table.proofs.Clashes.{every_fails, every_holds, writer_fails, writer_passes, no_writer}
 use Rattle.table.proofs.apart.apart_below.Goals as goal
 use Rattle.table.proofs.apart.apart_below.Goals.{then-writes+else-meet, else-writes}
@@ -45,10 +43,10 @@ loop-k-smaller c = omega arith
 
 pub loop-k-preserved : goal.loop-k-preserved
 loop-k-preserved c = let said = sym c.writes.ensures in (
-      omega arith,
-      below_more _ _ c.loop-k.invariant.1
-          (elim c.if-writes.branch [ then-writes+else-meet w ↦ writer_passes (said ∙ w.if-writes.true) (ap not (sym w.meet.ensures ∙ w.if-meet.false)) | else-writes w ↦ no_writer _ (said ∙ w.if-writes.false) ]),
-    )
+  omega arith,
+  below_more _ _ c.loop-k.invariant.1
+      (elim c.if-writes.branch [ then-writes+else-meet w ↦ writer_passes (said ∙ w.if-writes.true) (ap not (sym w.meet.ensures ∙ w.if-meet.false)) | else-writes w ↦ no_writer _ (said ∙ w.if-writes.false) ]),
+)
 
 pub returns : goal.returns
 unfolding apart_below

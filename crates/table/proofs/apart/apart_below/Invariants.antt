@@ -1,17 +1,12 @@
-use mathlib.Core.Path.{◌≡◌, sym, ap, ◌∙◌}
+use mathlib.Core.Path.{◌≡◌}
 use mathlib.Core.Bool.{true, not, ◌||◌}
-use mathlib.Core.Logic.{⊎_elim}
 use Prim.Native.Nat.{ℕ, ◌-◌, ◌≤◌, ◌<◌}
-use native.Mathlib.Omega.{arith}
-use borrow.Author.Rules.{rules}
-use borrow.Author.Count.{below_none, below_more}
 use Rattle.rules.specs.Reading.{task_of, writes_in}
-use Rattle.table.specs.Forms.{meets, apart_below}
-use Rattle.table.proofs.Clashes.{every_fails, every_holds, writer_fails, writer_passes, no_writer}
+use Rattle.table.specs.Forms.{meets}
 use Rattle.table.proofs.apart.apart_below.Given as goal
+
 abbrev pub invariant-loop-k : goal.invariant-loop-k
 invariant-loop-k l = (l.k ≤ l.task) × ((j : ℕ) → j < l.k → (not (writes_in l.grid l.signal j) || not (meets (task_of l.tasks j) (task_of l.tasks l.task))) ≡ true)
 
 abbrev pub decreases-loop-k : goal.decreases-loop-k
 decreases-loop-k l = l.task - l.k
-

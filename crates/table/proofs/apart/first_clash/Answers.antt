@@ -1,13 +1,9 @@
-use mathlib.Core.Path.{◌≡◌, sym, ◌∙◌}
-use mathlib.Core.Bool.{true}
-use Prim.Native.Nat.{ℕ, ◌-◌, ◌≤◌, ◌<◌}
+use mathlib.Core.Path.{sym, ◌∙◌}
 use native.Mathlib.Omega.{arith}
 use borrow.Author.Rules.{rules}
 use borrow.Author.Count.{below_none, below_more}
 use borrow.Author.Tests.{not-false}
-use Rattle.rules.specs.Reading.{writes_in}
 use Rattle.theory.proofs.Tests.{not_is}
-use Rattle.table.specs.Forms.{publish_apart}
 use Rattle.table.proofs.Clashes.{clash_found, no_clash}
 use Rattle.table.proofs.apart.first_clash.Goals as goal
 

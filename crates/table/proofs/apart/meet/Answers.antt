@@ -1,4 +1,3 @@
-use borrow.Author.Rules.{rules}
 use Rattle.theory.proofs.Euclid.{gcd_pos}
 use Rattle.windows.proofs.Windows.{period_pos}
 use Rattle.table.specs.Forms.{meets}

@@ -1,13 +1,9 @@
-use mathlib.Core.Path.{◌≡◌, sym, ◌∙◌}
-use mathlib.Core.Bool.{true, not, ◌||◌}
-use Prim.Native.Nat.{ℕ, ◌-◌, ◌≤◌, ◌<◌}
+use mathlib.Core.Path.{sym, ◌∙◌}
 use native.Mathlib.Omega.{arith}
 use borrow.Author.Rules.{rules}
 use borrow.Author.Count.{below_none, below_more}
-use borrow.Author.Tests.{not-false}
-use Rattle.rules.specs.Reading.{writes_in}
 use Rattle.theory.proofs.Tests.{not_is}
-use Rattle.table.specs.Forms.{apart_below, publish_apart}
+use Rattle.table.specs.Forms.{publish_apart}
 use Rattle.table.proofs.Clashes.{every_fails, every_holds, writer_fails, writer_passes, no_writer}
 use Rattle.table.proofs.apart.publish_apart.Goals as goal
 use Rattle.table.proofs.apart.publish_apart.Goals.{then-writes+else-not-apart_below, else-writes}
@@ -35,10 +31,10 @@ loop-k-smaller c = omega arith
 
 pub loop-k-preserved : goal.loop-k-preserved
 loop-k-preserved c = let said = sym c.writes.ensures in (
-      omega arith,
-      below_more _ _ c.loop-k.invariant.1
-          (elim c.if-writes.branch [ then-writes+else-not-apart_below w ↦ writer_passes (said ∙ w.if-writes.true) (sym w.apart_below.ensures ∙ w.if-not-apart_below.false) | else-writes w ↦ no_writer _ (said ∙ w.if-writes.false) ]),
-    )
+  omega arith,
+  below_more _ _ c.loop-k.invariant.1
+      (elim c.if-writes.branch [ then-writes+else-not-apart_below w ↦ writer_passes (said ∙ w.if-writes.true) (sym w.apart_below.ensures ∙ w.if-not-apart_below.false) | else-writes w ↦ no_writer _ (said ∙ w.if-writes.false) ]),
+)
 
 pub returns : goal.returns
 unfolding publish_apart

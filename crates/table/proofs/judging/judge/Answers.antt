@@ -1,6 +1,5 @@
 use mathlib.Core.Path.{sym, ◌∙◌}
 use native.Mathlib.Omega.{arith}
-use borrow.Author.Rules.{rules}
 use Rattle.table.proofs.Says.{says_no_task, says_long, hyper_ticks, hyper_above}
 use Rattle.table.proofs.judging.judge.Goals as goal
 

@@ -1,4 +1,3 @@
-use borrow.Author.Rules.{rules}
 use Rattle.table.proofs.Says.{says_instances, says_uses, says_clash, says_done}
 use Rattle.table.proofs.judging.judge_within.Goals as goal
 

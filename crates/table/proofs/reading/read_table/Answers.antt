@@ -1,5 +1,4 @@
 use mathlib.Core.Path.{ap}
-use borrow.Author.Rules.{rules}
 use Rattle.sections.proofs.Windowed.{read_windowed}
 use Rattle.records.specs.Said.{end_said}
 use Rattle.table.proofs.Read.{read_refused, read_judged}

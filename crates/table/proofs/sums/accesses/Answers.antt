@@ -1,8 +1,6 @@
 use mathlib.Core.Path.{◌≡◌}
-use Prim.Native.Nat.{◌-◌, ◌*◌, ◌≤◌}
 use native.Mathlib.Omega.{arith}
 use borrow.Author.Rules.{rules}
-use Rattle.table.specs.Forms.{accesses_in}
 use Rattle.table.proofs.Totals.{total_none, accesses_turn, rights_bound}
 use Rattle.table.proofs.sums.accesses.Goals as goal
 
@@ -29,10 +27,10 @@ loop-s-smaller c = omega arith
 
 pub loop-s-preserved : goal.loop-s-preserved
 loop-s-preserved c = (
-      omega arith,
-      accesses_turn _ _ _ c.loop-s.invariant.1 c.reads.ensures c.one_if.ensures c.writes.ensures c.one_if-in-loop-s.ensures,
-      omega (arith, rights_bound c.reads.result c.writes.result),
-    )
+  omega arith,
+  accesses_turn _ _ _ c.loop-s.invariant.1 c.reads.ensures c.one_if.ensures c.writes.ensures c.one_if-in-loop-s.ensures,
+  omega (arith, rights_bound c.reads.result c.writes.result),
+)
 
 pub returns : goal.returns
 returns c = let e : c.loop-s.s ≡ c.args.signals = omega arith in

@@ -1,11 +1,9 @@
 use mathlib.Core.Path.{◌≡◌}
-use Prim.Native.Nat.{◌-◌, ◌*◌, ◌/◌, ◌≤◌}
+use Prim.Native.Nat.{◌/◌}
 use native.Mathlib.Omega.{arith}
 use borrow.Author.Rules.{rules}
-use Rattle.rules.specs.Table.{longest}
 use Rattle.rules.specs.Reading.{task_of}
 use Rattle.windows.proofs.Windows.{period_pos}
-use Rattle.table.specs.Forms.{instances_in}
 use Rattle.table.proofs.Totals.{total_none, total_turn, instances_bound}
 use Rattle.table.proofs.sums.all_instances.Goals as goal
 
@@ -33,10 +31,10 @@ loop-k-smaller c = omega arith
 
 pub loop-k-preserved : goal.loop-k-preserved
 loop-k-preserved c = let a = c.args in (
-      omega arith,
-      total_turn (λ k. a.hyper / (task_of a.tasks k).period) _ c.loop-k.invariant.1,
-      omega (arith, instances_bound a.hyper (task_of a.tasks c.loop-k.k).period c.requires.2),
-    )
+  omega arith,
+  total_turn (λ k. a.hyper / (task_of a.tasks k).period) _ c.loop-k.invariant.1,
+  omega (arith, instances_bound a.hyper (task_of a.tasks c.loop-k.k).period c.requires.2),
+)
 
 pub returns : goal.returns
 returns c = let e : c.loop-k.k ≡ c.args.tasks.count = omega arith in

@@ -1,11 +1,10 @@
 use mathlib.Core.Path.{◌≡◌}
-use Prim.Native.Nat.{◌-◌, ◌*◌, ◌≤◌}
+use Prim.Native.Nat.{◌*◌, ◌≤◌}
 use native.Mathlib.Omega.{arith}
 use borrow.Author.Rules.{rules}
-use Rattle.rules.specs.Table.{longest, most_signals}
+use Rattle.rules.specs.Table.{most_signals}
 use Rattle.rules.specs.Reading.{task_of}
 use Rattle.windows.proofs.Windows.{period_pos}
-use Rattle.table.specs.Forms.{uses_in}
 use Rattle.table.proofs.Totals.{total_none, uses_turn, accesses_bound, uses_bound}
 use Rattle.table.proofs.sums.all_uses.Goals as goal
 
@@ -40,10 +39,10 @@ loop-k-smaller c = omega arith
 
 pub loop-k-preserved : goal.loop-k-preserved
 loop-k-preserved c = let few : c.accesses.result ≤ 2 * most_signals = accesses_bound _ _ _ c.accesses.ensures c.requires.1 in (
-      omega arith,
-      uses_turn c.args.tasks _ _ _ _ c.loop-k.invariant.1 c.accesses.ensures,
-      omega (arith, uses_bound c.accesses.result c.args.hyper (task_of c.args.tasks c.loop-k.k).period few c.requires.3),
-    )
+  omega arith,
+  uses_turn c.args.tasks _ _ _ _ c.loop-k.invariant.1 c.accesses.ensures,
+  omega (arith, uses_bound c.accesses.result c.args.hyper (task_of c.args.tasks c.loop-k.k).period few c.requires.3),
+)
 
 pub returns : goal.returns
 returns c = let e : c.loop-k.k ≡ c.args.tasks.count = omega arith in
