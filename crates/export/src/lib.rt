@@ -57,12 +57,7 @@ fn numbers_of(answer: Answer) -> Numbered
 }
 
 // The live list of a signal at the front of the lent list: 0 with the records filled, 1 to 12, 14 or 23.
-pub fn press_live(
-    table: &[u8],
-    signal: usize,
-    list: &mut [LiveValue],
-    place: &mut usize,
-) -> u8
+pub fn press_live(table: &[u8], signal: usize, list: &mut [LiveValue], place: &mut usize) -> u8
     ensures { PressLiveGives table.now signal list.old result place.new list.new }
 {
     let answer = lives::live_list(table, signal, list);

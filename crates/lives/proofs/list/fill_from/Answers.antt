@@ -11,5 +11,5 @@ loop-k-preserved c =
     let less : c.loop-k.k < length a.list.now = omega arith in (
       omega arith,
       ap₂ (λ (l : List LiveValue) (v : LiveValue). slice_set l c.loop-k.k v) c.loop-k.invariant.1 c.record_in.ensures
-      ∙ front_suc (record_in a.words.now) c.loop-k.k a.list.now less,
+          ∙ front_suc (record_in a.words.now) c.loop-k.k a.list.now less,
     )

@@ -36,16 +36,16 @@ pub offset_bounds-values-count : goal.offset_bounds-values-count
 offset_bounds-values-count c =
     let a = c.args in
     let low : c.loop-n.count < 513 =
-        room a.tasks a.signals a.grid.now a.hyper a.signal c.requires c.order_events-events.result c.order_events-events.ensures c.loop-n.n c.loop-n-test.true
-        (sym c.is_written.ensures ∙ c.if-is_written.true) c.loop-n.held c.loop-n.values c.loop-n.count c.loop-n.invariant.1 in
+    room a.tasks a.signals a.grid.now a.hyper a.signal c.requires c.order_events-events.result c.order_events-events.ensures c.loop-n.n c.loop-n-test.true
+    (sym c.is_written.ensures ∙ c.if-is_written.true) c.loop-n.held c.loop-n.values c.loop-n.count c.loop-n.invariant.1 in
     omega arith
 
 pub overflow_add-count : goal.overflow_add-count
 overflow_add-count c =
     let a = c.args in
     let low : c.loop-n.count < 513 =
-        room a.tasks a.signals a.grid.now a.hyper a.signal c.requires c.order_events-events.result c.order_events-events.ensures c.loop-n.n c.loop-n-test.true
-        (sym c.is_written.ensures ∙ c.if-is_written.true) c.loop-n.held c.loop-n.values c.loop-n.count c.loop-n.invariant.1 in
+    room a.tasks a.signals a.grid.now a.hyper a.signal c.requires c.order_events-events.result c.order_events-events.ensures c.loop-n.n c.loop-n-test.true
+    (sym c.is_written.ensures ∙ c.if-is_written.true) c.loop-n.held c.loop-n.values c.loop-n.count c.loop-n.invariant.1 in
     omega arith
 
 pub loop-n-preserved : goal.loop-n-preserved
@@ -55,7 +55,7 @@ loop-n-preserved c =
     let said = sym c.is_written.ensures in (
       omega (arith, taken),
       elim c.if-is_written.branch [
-        then-is_written w ↦ moved w.held-is w.values-is w.count-is
+        | then-is_written w ↦ moved w.held-is w.values-is w.count-is
             (finds a.tasks a.signals a.grid.now a.hyper a.signal c.requires c.order_events-events.result c.order_events-events.ensures c.loop-n.n taken (said ∙ w.if-is_written.true) c.loop-n.held c.loop-n.values c.loop-n.count c.loop-n.invariant.1 _ _ w.written.ensures.value w.written.ensures.holds)
         | else-is_written w ↦ moved w.held-is w.values-is w.count-is
             (subst (λ (ls : List Life). Held ls c.loop-n.held c.loop-n.values c.loop-n.count)
