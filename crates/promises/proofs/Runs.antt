@@ -165,6 +165,8 @@ unfolding reply
 right_said (load table schedule) m r h S = refl
 right_said (call c) m idle untold (fresh n e) = ap (λ x. call_said x c) e ∙ (unfit_said c).0
 right_said (call c) m (on t G st) (since u g) (going tab L F D cs n R) = (simulates tab L F (run tab L (loaded tab L) cs) m R c).0
+right_said (call c) m idle (since u g) S = elim S [ ]
+right_said (call c) m (on t G st) untold S = elim S [ ]
 
 stands_after : (e : Request) (m : Machine) (r : loading.Running) (h : Story) → Stands m r h → Stands (code_leaves m e) (following r e) (telling h e)
 unfolding following telling run past
@@ -179,6 +181,8 @@ stands_after (call c) m idle untold (fresh n e) = fresh (call_leaves m c) (ap (�
 stands_after (call c) m (on t G st) (since u g) (going tab L F D cs n R) =
     rw (← run_snoc tab L cs (loaded tab L) c, ← past_snoc cs [] c)
     (going tab L F D (cs ++ c ∷ []) (call_leaves m c) (rw (run_snoc tab L cs (loaded tab L) c) (simulates tab L F (run tab L (loaded tab L) cs) m R c).1))
+stands_after (call c) m idle (since u g) S = elim S [ ]
+stands_after (call c) m (on t G st) untold S = elim S [ ]
 
 stands_run : (es : List Request) (rs : List Said) (m n : Machine) (r : loading.Running) (h : Story) → Stands m r h → Run m es rs n
     → (rs ≡ map reply_said (replies r es)) × ((q : loading.Running) × Stands n q (story_of h es))
@@ -188,6 +192,8 @@ stands_run (f ∷ fs) (b ∷ bs) m n r h S (next l k o e a es rs g R) =
     let (x, y) = gives_said m e a k g in
     let (p, q) = stands_run es rs k n (following r e) (telling h e) (subst (λ z. Stands z (following r e) (telling h e)) (sym y) (stands_after e m r h S)) R in
     (ap₂ ◌∷◌ (x ∙ right_said e m r h S) p, q)
+stands_run [] (b ∷ bs) m n r h S R = elim R [ ]
+stands_run (f ∷ fs) [] m n r h S R = elim R [ ]
 
 -- ---- the next call, in the demand's words
 
@@ -219,6 +225,8 @@ stands_promised : (m : Machine) (r : loading.Running) (h : Story) → Stands m r
 unfolding Promised
 stands_promised m idle untold (fresh n e) = e
 stands_promised m (on t G st) (since u g) (going tab L F D cs n R) = going_on tab L F cs (D cs) m R
+stands_promised m idle (since u g) S = elim S [ ]
+stands_promised m (on t G st) untold S = elim S [ ]
 
 new_promised : (new : Machine) → new ≡ unloaded → (es : List Request) (rs : List Said) (m : Machine) → Run new es rs m → AsPromised es rs m
 unfolding Promised
@@ -235,6 +243,7 @@ new_promised new g es rs m R =
 anew_promised : (m : Machine) (table schedule : List ℕ) → accepts table schedule ≡ true → (es : List Request) (rs : List Said) (n : Machine)
     → Run m (load table schedule ∷ es) rs n → AsPromised (load table schedule ∷ es) rs n
 unfolding load_leaves
+anew_promised m table schedule q es [] n R = elim R [ ]
 anew_promised m table schedule q es (a ∷ rs) n (next l k o e b fs bs (loads t s r g) R) =
     new_promised unloaded refl (load table schedule ∷ es) (a ∷ rs) n
     (next unloaded r.machine n (load table schedule) a es rs (loads table schedule r (g.0, g.1 ∙ rw q)) R)
