@@ -12,13 +12,23 @@ ROOT = pathlib.Path(__file__).resolve().parents[1]
 # Other programs that speak the same languages may stand in, to hold one against the other.
 ELSEWHERE = os.environ.get("PRESS_PROGRAMS")
 LOG = ROOT / "target/press.log"
-MINUTES = {"listing": 4, "rig": 6}
-PROVED = re.compile(r"rt: (\w+) proved \((\d+) s\)\n")
+# The prover names a crate, and then gives its verdict on it.
+CRATE = re.compile(r"crate (\w+): ")
+PROVED = "logic=proved "
+
+
+def place_of(name):
+    """Where rt leaves a program that is built."""
+    return ROOT / "crates" / name / "out" / name
 
 
 def newest_source():
-    files = [os.path.join(folder, name) for folder, _, names in os.walk(ROOT / "crates") for name in names]
-    return max(os.stat(file).st_mtime for file in [ROOT / "crates.txt", *files])
+    """When a source was last changed; what rt made of them lies beside them, in out/."""
+    found = [(ROOT / "crates.txt").stat().st_mtime]
+    for folder, below, names in os.walk(ROOT / "crates"):
+        below[:] = [name for name in below if name != "out"]
+        found += [os.stat(os.path.join(folder, name)).st_mtime for name in names]
+    return max(found)
 
 
 def is_built(path):
@@ -31,28 +41,33 @@ def say(words):
 
 def build(name):
     """Proves and builds a program: a line for each crate that is proved, and all that the prover says in the log."""
-    say(f"proving and building {name}: about {MINUTES[name]} minutes from nothing on two quiet cores; the prover's notes: {LOG.relative_to(ROOT)}")
+    say(f"proving and building {name}: minutes, from nothing; the prover's notes: {LOG.relative_to(ROOT)}")
     LOG.parent.mkdir(exist_ok=True)
-    began = time.monotonic()
+    path, crate = place_of(name), name
+    began = since = time.monotonic()
     try:
-        with LOG.open("wb") as log, subprocess.Popen(["rt", "check", name], cwd=ROOT, stdout=subprocess.PIPE, stderr=subprocess.STDOUT) as check:
-            for line in check.stdout:
+        # it runs the program too, which ends at once without input
+        with LOG.open("wb") as log, subprocess.Popen(["rt", "run"], cwd=ROOT / "crates" / name, stdin=subprocess.DEVNULL, stdout=subprocess.PIPE, stderr=subprocess.STDOUT) as run:
+            for line in run.stdout:
                 log.write(line)
-                proved = PROVED.fullmatch(line.decode(errors="replace"))
-                if proved:
-                    say(f"proved {proved[1]} ({proved[2]} s)")
+                told = line.decode(errors="replace")
+                found = CRATE.match(told)
+                crate = found[1] if found else crate
+                if told.startswith(PROVED):
+                    say(f"proved {crate} ({time.monotonic() - since:.0f} s)")
+                    since = time.monotonic()
     except FileNotFoundError:
-        raise Misuse(f"target/bin/{name} is not built, and rt, which proves and builds it, is not on the path") from None
-    if check.returncode:
+        raise Misuse(f"{path.relative_to(ROOT)} is not built, and rt, which proves and builds it, is not on the path") from None
+    if run.returncode or not path.exists():
         raise Misuse(f"{name} is not proved: see {LOG}")
     say(f"built {name} ({time.monotonic() - began:.0f} s)")
-    os.utime(ROOT / "target/bin" / name)
+    os.utime(path)
 
 
 def program(name):
     if ELSEWHERE:
         return pathlib.Path(ELSEWHERE) / name
-    path = ROOT / "target/bin" / name
+    path = place_of(name)
     if not is_built(path):
         build(name)
     return path

@@ -1,8 +1,8 @@
 /*
  * The press controller's library: reading, planning and checking of tables and schedules, and the machine that runs them.
  *
- * Link target/staticlib/libexport.a, which `rt staticlib export` writes after it has proved every function against its contract
- * (crates/export/src/lib.rt). The toolchain makes code for x86-64 alone, and so is the library. This header is C99, C11 or C++98, and adds
+ * Link target/staticlib/libexport.a, which firmware/library writes after it has proved every function against its contract
+ * (crates/export_c/src/lib.rt). The toolchain makes code for x86-64 alone, and so is the library. This header is C99, C11 or C++98, and adds
  * to the proved functions only what passes the members of a `struct press_machine` on, and words for the numbers. docs/FORMATS.md has the
  * bytes of tables and schedules.
  *
@@ -18,7 +18,7 @@
  * and press_load give the number's place through their last parameter; of the others it is always 0. A refusal changes nothing else that
  * was lent, but a refused press_read sets the word to 0, and a refused press_open_instance the instance.
  *
- * What a call costs on full tables (docs/PERFORMANCE.md): instructions, and bytes of stack below the caller.
+ * What a call costs on full tables (docs/PERFORMANCE.md, of an older kit): instructions, and bytes of stack below the caller.
  *   press_table     up to 255,000      3,400        press_new                                    sets 11,656 bytes
  *   press_plan            434,000     15,100        press_load                                   609,000    15,700
  *   press_live            668,000     32,900        press_step: mean 3,600, the busiest           10,800       512
