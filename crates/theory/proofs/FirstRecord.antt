@@ -22,7 +22,7 @@ use Rattle.rules.specs.declared.Tasks.{Tasks}
 use Rattle.rules.specs.declared.Signals.{Signals}
 use Rattle.rules.specs.declared.Accesses.{Accesses}
 use Rattle.theory.specs.First.{this, later, TableRule, no_task_rule, long_hyper_rule, many_instances_rule, many_uses_rule, two_publish_rule, table_told}
-use Rattle.theory.specs.FirstRecord.{BreaksNone, BreaksFirst, Mark, tk, sg, rd, wr, en, record_size, section_of, Record, how_many, InOrder, MarkAt, AccessAt, end, signal, ReadRule, mark_cut, bad_mark_rule, record_cut, too_many_rule, after_end_rule, read_rules, BrokenRead, read_told, SoFar, start, then, RecordRefused, AllRead, ReadFirst}
+use Rattle.theory.specs.FirstRecord.{BreaksNone, BreaksFirst, Mark, tk, sg, rd, wr, en, record_size, section_of, Record, how_many, InOrder, MarkAt, AccessAt, ReadRule, mark_cut, bad_mark_rule, record_cut, too_many_rule, after_end_rule, read_rules, BrokenRead, read_told, SoFar, start, then, RecordRefused, AllRead, ReadFirst}
 use Rattle.theory.proofs.Tests.{split, not_both, no_test, not_is, here, when_right}
 use Rattle.theory.proofs.First.{first_one, told_by, done_exactly, table_first}
 use Rattle.theory.proofs.OneRecord.{each_mark, one_mark, two_sections, mark_exact, right_rd, right_wr, right_some, LastIs, UpTo, Obeys, takes, tells, pass, in_order, not_a_task, not_an_access, whole_exact, many_exact, access_many, task_obeys, signal_obeys, access_obeys, one_to_six, numbered}

@@ -8,7 +8,7 @@ use lib.Dec.{ltb, eqb}
 use lib.ListN.{length, drop, length-drop}
 use borrow.Author.Tests.{lt-ltb, le-ltb, le-leb, eq-eqb}
 use Rattle.rules.specs.Windows.{Table}
-use Rattle.rules.specs.Table.{most_tasks, most_signals, most_accesses, longest, windowed, accesses, Fits}
+use Rattle.rules.specs.Table.{most_tasks, most_signals, most_accesses, longest, windowed, Fits}
 use Rattle.rules.specs.Fields.{TK, SG, RD, WR, EN, four, holds_at, byte_at, mark_at}
 use Rattle.rules.specs.Numbers.{tell}
 use Rattle.rules.specs.Encode.{encode}
