@@ -30,7 +30,7 @@ Refused r = (told r).number ≡ all_done → ⊥
 -- 1. Every call ends with an answer, however bad what it is given: no function above has a `requires`, and the checker proves that each ends.
 pub record Demand1 : Type 0 where
   -- A refusal says which rule broke and where: of a table the first that the first wrong record breaks, else the first that the whole table breaks (and
-  -- `first-broken` in Plans, Lists and Schedules says it of a plan, a live list and a schedule);
+  -- `first_broken` in Plans, Lists and Schedules says it of a plan, a live list and a schedule);
   pub tables : TablesFirst
   -- and it changes nothing lent:
   -- not the buffer to plan into,

@@ -32,7 +32,7 @@ pub record TellsFirst (bytes : List ℕ) (r : TableRead) : Type 0 where
   pub first : ReadFirst bytes (told r.answer)
   -- H, by which 8 goes, is the least common multiple of the periods that are read.
   pub least : IsLeast (table_in bytes).period (table_in bytes).tasks (hyper (table_in bytes))
-  -- It is `read_says`, which planning, the live list and the check tell too of a table that is refused (`table-refused`).
+  -- It is `read_says`, which planning, the live list and the check tell too of a table that is refused (`table_refused`).
   pub same : told r.answer ≡ read_says bytes
 
 abbrev pub TablesFirst : Type 0
