@@ -10,9 +10,6 @@ use Rattle.sections.proofs.Sectioned.{turned}
 use Rattle.sections.proofs.Taken.{access_taken}
 use Rattle.sections.proofs.accesses_from.Goals as goal
 
--- HELPER few : (c : tie.After-access invariant-loop decreases-loop) → c.before.before.before.loop.accesses.count < most_accesses
--- HELPER few c = (access_taken _ _ _ _ _ _ (sym c.before.before.access-at.ensures ∙ ap access_said c.access.given.1)).few
-
 pub loop-access-init : goal.loop-access-init
 unfolding accesses_in
 loop-access-init c = let a = c.args in (

@@ -9,9 +9,6 @@ use Rattle.sections.proofs.Sectioned.{turned}
 use Rattle.sections.proofs.Taken.{task_taken}
 use Rattle.sections.proofs.read_tasks.Goals as goal
 
--- HELPER few : (c : tie.After-task invariant-loop decreases-loop) → c.before.before.before.loop.tasks.count < most_tasks
--- HELPER few c = (task_taken _ _ _ (sym c.before.before.task-at.ensures ∙ ap task_said c.task.given.1)).few
-
 pub loop-task-init : goal.loop-task-init
 unfolding tasks_in
 loop-task-init c = (omega arith, refl)

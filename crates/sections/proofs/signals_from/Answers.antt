@@ -10,9 +10,6 @@ use Rattle.sections.proofs.Sectioned.{turned}
 use Rattle.sections.proofs.Taken.{signal_few}
 use Rattle.sections.proofs.signals_from.Goals as goal
 
--- HELPER few : (c : tie.After-default invariant-loop decreases-loop) → c.before.before.before.loop.signals.count < most_signals
--- HELPER few c = signal_few _ _ _ (sym c.before.before.signal-at.ensures ∙ ap signal_said c.default.given.1)
-
 pub loop-default-init : goal.loop-default-init
 unfolding signals_in
 loop-default-init c = let a = c.args in (
