@@ -23,7 +23,7 @@ use Rattle.theory.proofs.Sections.{after, puts, Fitting, puts_count, fitting_fro
 use Rattle.theory.proofs.Records.{task_form, signal_form, access_form, task_kind, task_lawful, signal_kind, signal_lawful, access_kind, access_lawful, mark_is, stands}
 use Rattle.theory.proofs.Listed.{task_no, listed_length, task_list, default_list, access_list, encode_lists, accesses_length, Has, all_has, accesses_rise, same_lists}
 use Rattle.theory.proofs.Same.{same_fits}
-use Rattle.theory.proofs.TableRead.{fits_window, marked_in, kind, same_end, tasks_are, defaults_are, accesses_are, written_back}
+use Rattle.theory.proofs.TableRead.{FitsWindow, marked_in, kind, same_end, tasks_are, defaults_are, accesses_are, written_back}
 
 -- these bytes begin with another mark
 abbrev Other : ℕ → ℕ → List ℕ → Type 0
@@ -68,14 +68,14 @@ module _ (tab : Table) (F : Fits tab) (W : Wide tab) where
 
   -- ---- its records are fit to follow each other
 
-  window_fits : (k : ℕ) → k < tab.tasks → fits_window (task_no tab k)
+  window_fits : (k : ℕ) → k < tab.tasks → FitsWindow (task_no tab k)
   unfolding windowed
   window_fits k h = and_is (and_is (lt-ltb (tab.start k) (tab.end k) (F.window k h)) (le-leb (tab.end k) (tab.period k) (F.within k h))) (le-leb (tab.period k) longest (F.short k h))
 
   tasks_fit : Fitting (task_kind bytes) no_tasks (task_list tab)
   tasks_fit =
-      fitting_from (task_kind bytes) (λ b ts. (b.count + length ts ≤ most_tasks) × All fits_window ts) (λ b t ts q. ((omega arith, q.1.0), (omega arith, q.1.1))) no_tasks (task_list tab)
-      (omega (arith, listed_length (task_no tab) tab.tasks, F.few_tasks), all_gather fits_window (λ k. task_no tab k ∷ []) tab.tasks (λ k h. (window_fits k h, tt)))
+      fitting_from (task_kind bytes) (λ b ts. (b.count + length ts ≤ most_tasks) × All FitsWindow ts) (λ b t ts q. ((omega arith, q.1.0), (omega arith, q.1.1))) no_tasks (task_list tab)
+      (omega (arith, listed_length (task_no tab) tab.tasks, F.few_tasks), all_gather FitsWindow (λ k. task_no tab k ∷ []) tab.tasks (λ k h. (window_fits k h, tt)))
 
   signals_fit : Fitting (signal_kind bytes) no_signals (default_list tab)
   signals_fit =

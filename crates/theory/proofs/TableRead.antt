@@ -31,8 +31,8 @@ places_listed : {A B : Type 0} (K : Kind A B) (P : Places K) (d : A) (b : B) (xs
 places_listed K P d b xs l z f =
     listed_is d (λ k. get_or (P.list (puts K b xs)) k d) (P.count (puts K b xs)) xs (omega (arith, puts_count K P.count P.put_count b xs)) (places_at K P d b xs l z f)
 
-abbrev pub fits_window : Task → Type 0
-fits_window t = windowed t.period t.start t.end ≡ true
+abbrev pub FitsWindow : Task → Type 0
+FitsWindow t = windowed t.period t.start t.end ≡ true
 
 module _ (bytes : List ℕ) where
   -- ---- what was read, as three lists
@@ -99,10 +99,10 @@ module _ (bytes : List ℕ) where
 
   -- ---- rules 3 and 4
 
-  windows : All fits_window (task_list (table_in bytes))
+  windows : All FitsWindow (task_list (table_in bytes))
   windows =
       let w = tasks_walked in
-      subst (All fits_window) (sym (tasks_are w.records w.fit w.read)) (fitting_all (task_kind bytes) fits_window (λ b t f. f.1) no_tasks w.records w.fit)
+      subst (All FitsWindow) (sym (tasks_are w.records w.fit w.read)) (fitting_all (task_kind bytes) FitsWindow (λ b t f. f.1) no_tasks w.records w.fit)
 
   few_accesses : length accesses_walked.records ≤ most_accesses
   few_accesses =
@@ -119,8 +119,8 @@ module _ (bytes : List ℕ) where
         let w = accesses_walked in
         omega (arith, few_accesses, accesses_length (table_in bytes), ap length (accesses_are w.records w.fit w.read));
     windows = λ k h.
-        subst fits_window (listed_at no_task (task_no (table_in bytes)) (table_in bytes).tasks k h)
-        (all_at fits_window no_task (task_list (table_in bytes)) windows k (omega (arith, listed_length (task_no (table_in bytes)) (table_in bytes).tasks)));
+        subst FitsWindow (listed_at no_task (task_no (table_in bytes)) (table_in bytes).tasks k h)
+        (all_at FitsWindow no_task (task_list (table_in bytes)) windows k (omega (arith, listed_length (task_no (table_in bytes)) (table_in bytes).tasks)));
   }
 
   -- ---- what was read is accepted
