@@ -1,3 +1,4 @@
-pub mod Turns
+pub mod Put
 pub mod Figures
+pub mod Numbers
 pub mod Cases

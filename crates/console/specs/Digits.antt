@@ -1,53 +1,39 @@
 -- Numbers and bytes as the console reads them. Assumes nothing.
-use Rattle.std.specs.Prelude.{ℕ, ◌+◌, ◌*◌, ◌-◌, ◌%◌, Bool, true, false, not, ◌&&◌, List, [], ◌∷◌, length, ltb, leb, eqb}
-use Rattle.rules.specs.Words.{when}
-use Rattle.console.specs.declared.digits.Numeral.{Numeral}
+use Rattle.std.specs.Prelude.{ℕ, ◌+◌, ◌*◌, ◌%◌, Bool, not, ◌&&◌, ◌||◌, Option, Some, None, List, [], ◌∷◌, length, nat_le, ◌==◌, if◌then◌else◌, unwrap_or}
+use Rattle.std.specs.Char.{digit_value, is_digit, is_ascii_hexdigit}
+use Rattle.std.specs.Str.{bytes_eq}
+use Rattle.std.specs.List.{list_all}
 use Rattle.console.specs.Ascii.{dash}
-use Rattle.console.specs.Words.{same_bytes}
+use Rattle.console.specs.Steps.{◌>>=◌}
 
-unfoldable pub within : ℕ → ℕ → ℕ → Bool
-within low high b = leb low b && leb b high
-
--- what a digit stands for, of either case; 16 for a byte that is no digit
-unfoldable pub digit_of : ℕ → ℕ
-digit_of b =
-    when (within 48 57 b) (b - 48)
-    (when (within 65 70 b) (b - 65 + 10)
-    (when (within 97 102 b) (b - 97 + 10)
-    16))
-
--- each byte is a digit below the base
-unfoldable pub all_digits : ℕ → List ℕ → Bool
-all_digits base [] = true
-all_digits base (b ∷ bs) = when (ltb (digit_of b) base) (all_digits base bs) false
+-- what a digit of a base stands for, of either case
+abbrev pub digit_of : ℕ → ℕ → Option ℕ
+digit_of base b = if is_digit b base then Some (digit_value b) else None
 
 -- the decimal number that the digits make after those that make v
-unfoldable pub value_of : ℕ → List ℕ → ℕ
-value_of v [] = v
-value_of v (b ∷ bs) = value_of (v * 10 + digit_of b) bs
+abbrev pub value_of : ℕ → List ℕ → Option ℕ
+value_of v [] = Some v
+value_of v (b ∷ bs) = digit_of 10 b >>= λ d. value_of (v * 10 + d) bs
 
 -- a number that is no more than this
-unfoldable pub limited : ℕ → ℕ → Numeral
-limited most v = when (ltb most v) Numeral.Bad (Numeral.Value v)
+abbrev pub limited : ℕ → ℕ → Option ℕ
+limited most v = if nat_le v most then Some v else None
 
 -- one or more decimal digits, in all no more than `most`
-unfoldable pub number_of : ℕ → List ℕ → Numeral
-number_of most word =
-    when (eqb (length word) 0) Numeral.Bad
-    (when (not (all_digits 10 word)) Numeral.Bad
-    (limited most (value_of 0 word)))
+unfoldable pub number_of : ℕ → List ℕ → Option ℕ
+number_of most word = if length word == 0 then None else (value_of 0 word >>= limited most)
 
 -- `-`, or one pair of hex digits or more
 unfoldable pub is_hex : List ℕ → Bool
-is_hex word =
-    when (same_bytes word (dash ∷ [])) true
-    (when (eqb (length word) 0) false
-    (when (eqb (length word % 2) 1) false
-    (all_digits 16 word)))
+is_hex word = bytes_eq word (dash ∷ []) || (not (length word == 0) && ((length word % 2 == 0) && list_all is_ascii_hexdigit word))
 
--- the byte of two digits; a byte that is no digit counts as 0
+-- half a byte; a byte that is no hex digit counts as 0
+abbrev pub half_of : ℕ → ℕ
+half_of b = unwrap_or (digit_of 16 b) 0
+
+-- the byte of two digits
 abbrev pub pair_of : ℕ → ℕ → ℕ
-pair_of high low = digit_of high % 16 * 16 + digit_of low % 16
+pair_of high low = half_of high * 16 + half_of low
 
 -- the bytes of pairs of digits
 unfoldable pub bytes_of : List ℕ → List ℕ

@@ -1,10 +1,12 @@
-// The writing side: text appended to a lent buffer, of which the first `at` bytes are in use. Each function gives back how many are in use then.
-// A full buffer takes no more, so that no caller has to show that there is room.
-ghost use Rattle.std.specs.Prelude.{◌≡◌, ◌<◌, ◌/◌, ◌%◌, take};
+// The writing side: a lent buffer as a page, to which text is appended.
+// A full page takes no more, so that no caller has to show that there is room.
+ghost use Rattle.std.specs.Prelude.{◌≡◌, ◌<◌, [], ◌∷◌, take};
+ghost use Rattle.std.specs.List.{flat_map};
 ghost use Rattle.rules.specs.Listing.{figures, decimal_of};
-ghost use Rattle.console.specs.Page.{page, put_one, put_all, glyph_of, pairs_of, hex_of};
+ghost use Rattle.console.specs.Shown.{Puts};
+ghost use Rattle.console.specs.Page.{glyph_of, pair_text, hex_of};
 
-use crate::bases::{SIXTEEN, TEN, WIDE_TEN};
+use crate::bases::{SIXTEEN, TEN, WIDE};
 
 const ZERO: u8 = b'0';
 
@@ -17,26 +19,86 @@ pub const DASH: u8 = b'-';
 // A number of 64 bits has no more figures than this.
 const MOST_FIGURES: usize = 20;
 
-pub fn put(out: &mut [u8], at: usize, b: u8) -> usize
-    ensures { page out.new result ≡ put_one b (page out.old at) }
-{
-    if at < out.len() {
-        out[at] = b;
-        return at + 1;
-    }
-    at
+#[derive(Drop)]
+pub struct Page<'a> {
+    pub bytes: &'a mut [u8],
+    // So many of the bytes, from the first on, are in use.
+    pub used: usize,
 }
 
-pub fn put_all(out: &mut [u8], at: usize, bytes: &[u8]) -> usize
-    ensures { page out.new result ≡ put_all bytes.now (page out.old at) }
-{
-    let mut end = at;
-    let mut i = 0;
-    while i < bytes.len() {
-        end = put(out, end, bytes[i]);
-        i += 1;
+impl<'a> Page<'a> {
+    // The bytes in use.
+    pub fn text(&self) -> &[u8]
+        ensures { result.now ≡ take self.now.used self.now.bytes.now }
+    {
+        front(self.bytes, self.used)
     }
-    end
+
+    // A page to begin again; its bytes stay until others are put in their place.
+    pub fn clear(&mut self)
+        ensures { self.new ≡ record self.old { used = 0 } }
+    {
+        self.used = 0;
+    }
+
+    pub fn put(&mut self, b: u8)
+        ensures { Puts (b ∷ []) self.old self.new }
+    {
+        if self.used < self.bytes.len() {
+            self.bytes[self.used] = b;
+            self.used += 1;
+        }
+    }
+
+    pub fn put_all(&mut self, bytes: &[u8])
+        ensures { Puts bytes.now self.old self.new }
+    {
+        for b in bytes {
+            self.put(*b);
+        }
+    }
+
+    // The front figures come first, so each call leaves them to one with a tenth of the number.
+    fn put_figures(&mut self, n: u64, most: usize)
+        ensures { Puts (figures most n) self.old self.new }
+    {
+        if most == 0 {
+            return;
+        }
+        if n < WIDE {
+            self.put(glyph(n as u8));
+            return;
+        }
+        self.put_figures(n / WIDE, most - 1);
+        self.put(glyph((n % WIDE) as u8));
+    }
+
+    pub fn put_decimal(&mut self, n: u64)
+        ensures { Puts (decimal_of n) self.old self.new }
+    {
+        self.put_figures(n, MOST_FIGURES);
+    }
+
+    // Both digits of a byte.
+    fn put_pair(&mut self, b: u8)
+        ensures { Puts (pair_text b) self.old self.new }
+    {
+        self.put(glyph(b / SIXTEEN));
+        self.put(glyph(b % SIXTEEN));
+    }
+
+    // Bytes in hex, `-` for none.
+    pub fn put_hex(&mut self, bytes: &[u8])
+        ensures { Puts (hex_of bytes.now) self.old self.new }
+    {
+        if bytes.is_empty() {
+            self.put(DASH);
+            return;
+        }
+        for b in bytes {
+            self.put_pair(*b);
+        }
+    }
 }
 
 // The digit `d` as a character.
@@ -50,62 +112,9 @@ fn glyph(d: u8) -> u8
     BEFORE_A + d
 }
 
-// The front figures come first, so each call leaves them to one with a tenth of the number.
-fn put_figures(out: &mut [u8], at: usize, n: u64, most: usize) -> usize
-    ensures { page out.new result ≡ put_all (figures most n) (page out.old at) }
-{
-    if most == 0 {
-        return at;
-    }
-    if n < WIDE_TEN {
-        return put(out, at, glyph(n as u8));
-    }
-    let end = put_figures(out, at, n / WIDE_TEN, most - 1);
-    put(out, end, glyph((n % WIDE_TEN) as u8))
-}
-
-pub fn put_decimal(out: &mut [u8], at: usize, n: u64) -> usize
-    ensures { page out.new result ≡ put_all (decimal_of n) (page out.old at) }
-{
-    put_figures(out, at, n, MOST_FIGURES)
-}
-
-// Both digits of a byte.
-fn put_pair(out: &mut [u8], at: usize, b: u8) -> usize
-    ensures { page out.new result ≡ put_one (glyph_of (b % 16)) (put_one (glyph_of (b / 16)) (page out.old at)) }
-{
-    let end = put(out, at, glyph(b / SIXTEEN));
-    put(out, end, glyph(b % SIXTEEN))
-}
-
-fn put_pairs(out: &mut [u8], at: usize, bytes: &[u8]) -> usize
-    ensures { page out.new result ≡ put_all (pairs_of bytes.now) (page out.old at) }
-{
-    let mut end = at;
-    let mut i = 0;
-    while i < bytes.len() {
-        end = put_pair(out, end, bytes[i]);
-        i += 1;
-    }
-    end
-}
-
-// Bytes in hex, `-` for none.
-pub fn put_hex(out: &mut [u8], at: usize, bytes: &[u8]) -> usize
-    ensures { page out.new result ≡ put_all (hex_of bytes.now) (page out.old at) }
-{
-    if bytes.len() == 0 {
-        return put(out, at, DASH);
-    }
-    put_pairs(out, at, bytes)
-}
-
-// The bytes in use.
+// The first bytes, no more than `used`.
 pub fn front(bytes: &[u8], used: usize) -> &[u8]
     ensures { result.now ≡ take used bytes.now }
 {
-    if bytes.len() <= used {
-        return bytes;
-    }
-    &bytes[..used]
+    bytes.get(..used).unwrap_or(bytes)
 }

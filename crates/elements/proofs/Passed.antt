@@ -1,50 +1,55 @@
 -- The code's steps are those of the pass that makes the plan. Assumes nothing.
-use mathlib.Core.Bool.{true, false}
+use mathlib.Core.Bool.{Bool, true, false, cond}
+use Rattle.std.proofs.lemmas.List.Recursion.{is_position_or_len}
 use mathlib.Core.List.{List}
-use mathlib.Core.Path.{◌≡◌}
-use Prim.Native.Nat.{ℕ, ◌+◌, ◌*◌, ◌-◌, ◌/◌, ◌≤◌, ◌<◌, max}
-use native.Mathlib.Nat.{div-mul-le_self, div-le_self}
-use native.Mathlib.Numerals.{add-one}
+use mathlib.Core.Path.{◌≡◌, refl, sym, ap, ◌∙◌}
+use Prim.Native.Nat.{ℕ, ◌-◌, ◌≤◌, ◌<◌}
 use native.Mathlib.Omega.{arith}
-use lib.ListN.{get_or, set}
-use Rattle.rules.specs.Table.{most_elements, longest}
+use lib.ListN.{length, length-take, take, get_or}
+use Rattle.rules.specs.Table.{most_elements}
 use Rattle.rules.specs.Reading.{table_of, no_tasks, no_signals, no_grid}
 use Rattle.rules.specs.declared.Task.{Task}
-use Rattle.theory.specs.Sweep.{task_in, tick_in, is_opening, never}
-use Rattle.theory.specs.Chosen.{Choice, sent, taken, followed}
+use Rattle.std.specs.Prelude.{Option, Some, None}
+use Rattle.std.specs.Option.{unwrap_or}
+use Rattle.std.specs.List.{position, position_or_len}
+use lib.Dec.{leb, ltb}
+use borrow.Author.Tests.{ltb-true, ltb-false}
+use Rattle.theory.proofs.Tests.{split}
+use Rattle.theory.proofs.Untils.{first_within}
+use Rattle.theory.specs.Untils.{first_free}
+use Rattle.theory.specs.Sweep.{task_in, tick_in, is_opening}
+use Rattle.theory.specs.Chosen.{Choice, followed}
 use Rattle.theory.proofs.Chosen.{free_is}
-use Rattle.elements.specs.declared.Standing.{Standing}
 use Rattle.elements.specs.declared.pass.Access.{Access}
-use Rattle.elements.specs.Steps.{free_in, choice_of}
-use Rattle.elements.specs.Pass.{reads_by, writes_by, Opens, turn_of}
+use Rattle.elements.specs.Steps.{free_in}
+use Rattle.elements.specs.Pass.{reads_by, writes_by, turn_of}
+
+-- the first element that is free
+pub free_position : (t : ℕ) (us : List ℕ) → position_or_len (λ u. leb u t) us ≡ first_free us t
+unfolding first_free
+free_position t us = sym (is_position_or_len (λ us. first_free us t) (λ u. leb u t) refl (λ u us. ap (cond (leb u t) 0) (omega arith)) us)
+
+-- and where none of the first 31 is, the last
+pub free_taken : (held : List ℕ) (t : ℕ) {p : Option ℕ} {r : ℕ} → length held ≡ most_elements → p ≡ position (λ u. leb u t) (take (most_elements - 1) held) → r ≡ unwrap_or p (most_elements - 1)
+    → (r ≡ free_in held t) × (r < most_elements)
+free_taken held t {p} {r} l e h =
+    let us : List ℕ = take (most_elements - 1) held in
+    let at : ℕ = position_or_len (λ u. leb u t) us in
+    let n : at ≡ free_in held t = free_position t us in
+    let m : length us ≡ most_elements - 1 = omega (arith, length-take (most_elements - 1) held) in
+    let within : free_in held t ≤ length us = first_within us t in
+    let is : (b : Bool) → ltb at (length us) ≡ b → r ≡ unwrap_or (cond b (Some at) None) (most_elements - 1) = λ b q. h ∙ ap (λ p. unwrap_or p (most_elements - 1)) (e ∙ ap (λ b. cond b (Some at) None) q) in
+    split (ltb at (length us))
+    (λ q. let d = ltb-true at (length us) q in let v = is true q in (v ∙ n, omega arith))
+    (λ q. let d = ltb-false at (length us) q in let v = is false q in (omega arith, omega arith))
 
 -- the lowest free element: no table has more
 pub free_in_lem : (held : List ℕ) (t e : ℕ) → e < most_elements → (e < most_elements - 1 → get_or held e 0 ≤ t) → ((d : ℕ) → d < e → t < get_or held d 0) → free_in held t ≡ e
 free_in_lem held t e h f g = free_is (table_of no_tasks no_signals no_grid) held t e h f g
 
-pub taken_is : (held own uses : List ℕ) (state : Standing) (u k t e n : ℕ) → e ≡ free_in held t → n ≡ max state.count (e + 1)
-    → choice_of (set held e never) (set own k e) (set uses u e) (record { element = state.element; reach = state.reach; count = n }) ≡ taken (choice_of held own uses state) u k (free_in held t)
-taken_is held own uses state u k t e n a b = rw (b, add-one, a)
-
--- ---- an opening, with and without the right
+-- ---- an opening or a closing
 
 module _ (task : Task) (access : Access) where
-  pub reads_yes : (t : ℕ) (c : Choice) → access.reads ≡ true → sent c (access.reader + t / task.period) (t / task.period * task.period + task.end) ≡ reads_by task access t c
-  reads_yes t c e = rw e
-
-  pub reads_no : (t : ℕ) (c : Choice) → access.reads ≡ false → c ≡ reads_by task access t c
-  reads_no t c e = rw e
-
-  pub writes_yes : (k t : ℕ) (c : Choice) → access.writes ≡ true → taken c (access.writer + t / task.period) k (free_in c.held t) ≡ writes_by task access k t c
-  writes_yes k t c e = rw e
-
-  pub writes_no : (k t : ℕ) (c : Choice) → access.writes ≡ false → c ≡ writes_by task access k t c
-  writes_no k t c e = rw e
-
-  -- the numbers are small
-  pub small : (k t : ℕ) → Opens task access k t → (t / task.period ≤ longest) × (t / task.period * task.period ≤ longest)
-  small k t O = (omega (arith, div-le_self t task.period, O.tick), omega (arith, div-mul-le_self t task.period, O.tick))
-
   pub turn_opens : (n : ℕ) (c : Choice) → is_opening n ≡ true → writes_by task access (task_in n) (tick_in n) (reads_by task access (tick_in n) c) ≡ turn_of task access n c
   unfolding turn_of
   turn_opens n c e = rw e

@@ -1,88 +1,30 @@
 -- The code's pass over the events of a table is the one that makes the plan. Assumes nothing.
-use mathlib.Core.Bool.{Bool, true, false, cond, true≢false}
+use mathlib.Core.Bool.{Bool, true, false, true≢false}
 use mathlib.Core.List.{List, [], ◌∷◌}
 use mathlib.Core.Logic.{inl, inr}
-use mathlib.Core.Path.{◌≡◌, refl, sym, ap, subst, ◌∙◌}
-use Prim.Native.Nat.{ℕ, zero, suc, ◌+◌, ◌*◌, ◌-◌, ◌/◌, ◌≤◌, ◌<◌}
+use mathlib.Core.Path.{◌≡◌, refl, sym, ap, ◌∙◌}
+use Prim.Native.Nat.{ℕ, suc, ◌+◌, ◌-◌, ◌/◌, ◌≤◌, ◌<◌}
 use native.Mathlib.Numerals.{add-one}
 use native.Mathlib.Omega.{arith}
-use lib.ListN.{length, get_or, set, take, length-take, get_or-append}
+use lib.ListN.{length, get_or, take}
 use lib.Seq.{take-suc, take-length}
 use Rattle.rules.specs.Windows.{Table, opens, closes, instances, hyper}
-use Rattle.rules.specs.Table.{most_tasks, most_elements, longest, Fits}
-use Rattle.rules.specs.Schedule.{most}
+use Rattle.rules.specs.Table.{longest, Fits}
 use Rattle.rules.specs.Reading.{Grid, task_of, writes_in, reads_in, no_signals}
 use Rattle.rules.specs.declared.Tasks.{Tasks}
-use Rattle.theory.specs.Sweep.{task_in, tick_in, is_opening, events, through, opened, closed, acted}
-use Rattle.theory.specs.Chosen.{Choice, free_element, sent, taken, followed, reads, takes, publishes, choose, unchosen, chosen}
+use Rattle.theory.specs.Sweep.{task_in, tick_in, is_opening, events, through, acted}
+use Rattle.theory.specs.Chosen.{Choice, choose, unchosen, chosen}
 use Rattle.theory.proofs.Tests.{split, holds}
 use Rattle.theory.proofs.Lists.{all_at}
 use Rattle.theory.proofs.Time.{instance_is, closes_le}
-use Rattle.theory.proofs.Untils.{first_within}
-use Rattle.theory.proofs.Linear.{nothing_held}
 use Rattle.theory.proofs.Swept.{opening_digits, closing_digits, through_append}
-use Rattle.theory.proofs.Events.{IsEvent, events_up, events_all, few_events}
+use Rattle.theory.proofs.Events.{IsEvent, events_all}
 use Rattle.theory.proofs.Chosen.{first_next, writer_lt, reader_lt}
-use Rattle.events.specs.Order.{tasks_table, most_events}
-use Rattle.events.specs.declared.Events.{Events}
+use Rattle.events.specs.Order.{tasks_table}
 use Rattle.events.proofs.Alone.{events_alone}
 use Rattle.elements.specs.declared.pass.Access.{Access}
 use Rattle.elements.specs.declared.pass.Numbers.{Numbers}
 use Rattle.elements.specs.Pass.{Turns, turn_of, pass_table, Ready}
-
--- ---- elements stay elements
-
-set_any : (P : ℕ → Type 0) (l : List ℕ) (k e j : ℕ) → P e → P (get_or l j 0) → P (get_or (set l k e) j 0)
-set_any P [] k e j a b = b
-set_any P (x ∷ xs) zero e zero a b = a
-set_any P (x ∷ xs) zero e (suc j) a b = b
-set_any P (x ∷ xs) (suc k) e zero a b = b
-set_any P (x ∷ xs) (suc k) e (suc j) a b = set_any P xs k e j a b
-
-pub record Low (c : Choice) : Type 0 where
-  pub current : c.current < most_elements
-  pub own : (k : ℕ) → get_or c.own k 0 < most_elements
-  pub count : c.count ≤ most_elements
-
-free_low : (tab : Table) (held : List ℕ) (t : ℕ) → free_element tab held t < most_elements
-free_low tab held t = omega (arith, first_within (take (most tab - 1) held) t, length-take (most tab - 1) held)
-
-low_sent : (c : Choice) (u b : ℕ) → Low c → Low (sent c u b)
-low_sent c u b L = record { current = L.current; own = L.own; count = L.count }
-
-low_taken : (c : Choice) (u k e : ℕ) → e < most_elements → Low c → Low (taken c u k e)
-low_taken c u k e h L = record { current = L.current; own = λ j. set_any (λ x. x < most_elements) c.own k e j h (L.own j); count = omega (arith, L.count) }
-
-low_followed : (c : Choice) (k b : ℕ) → Low c → Low (followed c k b)
-low_followed c k b L = record { current = L.own k; own = L.own; count = L.count }
-
-low_if : (b : Bool) (c d : Choice) → Low c → Low d → Low (cond b c d)
-low_if true c d L M = L
-low_if false c d L M = M
-
-low_choose : (tab : Table) (s : ℕ) (c : Choice) (n : ℕ) → Low c → Low (choose tab s c n)
-unfolding acted
-low_choose tab s c n L =
-    let t = tick_in n in
-    let k = task_in n in
-    let d = cond (tab.reads s k) (reads tab s c k t) c in
-    let M : Low d = low_if (tab.reads s k) (reads tab s c k t) c (low_sent c _ _ L) L in
-    low_if (is_opening n) (opened tab s (reads tab s) (takes tab s) c k t) (closed tab s (publishes tab s) c k (t - 1))
-    (low_if (tab.writes s k) (takes tab s d k t) d (low_taken d _ k (free_element tab d.held t) (free_low tab d.held t) M) M)
-    (low_if (tab.writes s k) (publishes tab s c k (t - 1)) c (low_followed c k _ L) L)
-
-low_through : (tab : Table) (s : ℕ) (c : Choice) (ns : List ℕ) → Low c → Low (through (choose tab s) c ns)
-unfolding through
-low_through tab s c [] L = L
-low_through tab s c (n ∷ ns) L = low_through tab s (choose tab s c n) ns (low_choose tab s c n L)
-
-low_unchosen : (tab : Table) (s : ℕ) (uses : List ℕ) → Low (unchosen tab s uses)
-low_unchosen tab s uses = record { current = omega arith; own = λ k. rw (nothing_held most_tasks k) (omega arith); count = omega arith }
-
--- the count of a signal is small
-pub few_elements : (tab : Table) (s : ℕ) (uses : List ℕ) → (chosen tab s uses).count ≤ most_elements
-unfolding chosen
-few_elements tab s uses = (low_through tab s (unchosen tab s uses) (events tab) (low_unchosen tab s uses)).count
 
 -- ---- one after the other
 
@@ -106,29 +48,24 @@ module _ (tasks : Tasks) (grid : Grid) (s : ℕ) where
   unfolding chosen
   after_all uses n c h e = e ∙ ap (through (choose tab s) (unchosen tab s uses)) (ap (λ n. take n (events tab)) h ∙ take-length (events tab))
 
-  pub after_low : (uses : List ℕ) (n : ℕ) (c : Choice) → After uses n c → c.current < most_elements
-  after_low uses n c e = (subst Low (sym e) (low_through tab s (unchosen tab s uses) (take n (events tab)) (low_unchosen tab s uses))).current
-
-  module _ (list : List ℕ) (count : ℕ) (numbers : Numbers) (R : Ready tasks grid s list count numbers) where
+  module _ (list : List ℕ) (numbers : Numbers) (R : Ready tasks grid s list numbers) where
     abbrev F : Fits (tasks_table tasks)
     F = R.fits
 
-    pub counted : count ≡ length (events tab)
-    counted = ap (λ (x : Events). x.count) R.events ∙ ap length (sym (events_alone tasks no_signals grid))
+    -- no table with these tasks has other events
+    same_events : list ≡ events tab
+    same_events = R.events ∙ sym (events_alone tasks no_signals grid)
 
-    pub few : count ≤ most_events
-    few = omega (arith, ap (λ (x : Events). x.count) R.events, few_events (tasks_table tasks) F most_tasks (most_tasks + hyper (tasks_table tasks) * (2 * most_tasks)) (events (tasks_table tasks)) (events_up (tasks_table tasks) F) (events_all (tasks_table tasks) F), F.few_instances)
+    pub counted : length list ≡ length (events tab)
+    counted = ap length same_events
 
-    module _ (n : ℕ) (h : n < count) where
+    module _ (n : ℕ) (h : n < length list) where
       -- the event that the code reads
       abbrev event : ℕ
       event = get_or list n 0
 
-      same_event : event ≡ get_or (events (tasks_table tasks)) n 0
-      same_event = ap (λ (x : Events). get_or x.list n 0) R.events ∙ get_or-append (events (tasks_table tasks)) _ 0 n (omega (arith, ap (λ (x : Events). x.count) R.events))
-
       is_event : IsEvent (tasks_table tasks) event
-      is_event = rw same_event (all_at (IsEvent (tasks_table tasks)) 0 (events (tasks_table tasks)) (events_all (tasks_table tasks) F) n (omega (arith, ap (λ (x : Events). x.count) R.events)))
+      is_event = rw R.events (all_at (IsEvent (tasks_table tasks)) 0 (events (tasks_table tasks)) (events_all (tasks_table tasks) F) n (omega (arith, ap length R.events)))
 
       -- the rights and first uses of its task
       abbrev access : Bool → Bool → Access
@@ -168,7 +105,6 @@ module _ (tasks : Tasks) (grid : Grid) (s : ℕ) where
           let m = one_task in
           let f = first_next tab s in
           record {
-            one = omega (arith, F.few_tasks);
             tick = w.1;
             period = omega (arith, F.window (task_in event) m, F.within (task_in event) m);
             end = omega (arith, F.within (task_in event) m, F.short (task_in event) m);
@@ -195,5 +131,10 @@ module _ (tasks : Tasks) (grid : Grid) (s : ℕ) where
       pub after_turn : (uses : List ℕ) (c d : Choice) (r w : Bool) → r ≡ reads_in grid s (task_in event) → w ≡ writes_in grid s (task_in event) → After uses n c
           → d ≡ turn_of (task_of tasks (task_in event)) (access r w) event c → After uses (n + 1) d
       after_turn uses c d r w x z a e =
-          e ∙ ap (λ r. turn_of (task_of tasks (task_in event)) (access r w) event c) x ∙ ap (λ w. turn_of (task_of tasks (task_in event)) (access (reads_in grid s (task_in event)) w) event c) z ∙ turn_is c ∙ ap (choose tab s c) (same_event ∙ ap (λ xs. get_or xs n 0) (sym (events_alone tasks no_signals grid))) ∙ ap (λ c. choose tab s c (get_or (events tab) n 0)) a
+          e
+          ∙ ap (λ r. turn_of (task_of tasks (task_in event)) (access r w) event c) x
+          ∙ ap (λ w. turn_of (task_of tasks (task_in event)) (access (reads_in grid s (task_in event)) w) event c) z
+          ∙ turn_is c
+          ∙ ap (λ xs. choose tab s c (get_or xs n 0)) same_events
+          ∙ ap (λ c. choose tab s c (get_or (events tab) n 0)) a
           ∙ sym (through_turn (choose tab s) (unchosen tab s uses) (events tab) n (omega (arith, counted)))

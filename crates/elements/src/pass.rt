@@ -1,14 +1,13 @@
 // The pass over the openings and closings of a hyper-period.
-ghost use Rattle.std.specs.Prelude.{List, ◌≡◌, ℕ, ◌<◌};
-ghost use Rattle.rules.specs.Table.{most_elements};
+ghost use Rattle.std.specs.Prelude.{◌≡◌, ◌<◌, ◌≤◌};
+ghost use Rattle.rules.specs.Table.{most_tasks, most_elements};
 ghost use Rattle.theory.specs.Chosen.{chosen};
 ghost use Rattle.elements.specs.Steps.{choice_of};
 ghost use Rattle.elements.specs.Pass.{Opens, reads_by, writes_by, Turns, turn_of, pass_table, Ready};
 
-use crate::steps::{publish, send, take};
-use crate::{NEVER, Standing};
-use events::{KIND, MOST_EVENTS};
-use rules::{CARRIED_ELEMENT, MOST_ELEMENTS, MOST_SIGNALS, MOST_TASKS, MOST_USES, Task, Tasks};
+use crate::state::Elements;
+use events::KIND;
+use rules::{MOST_SIGNALS, MOST_TASKS, MOST_USES, Task, Tasks};
 use signals::{reads, writes};
 
 // The numbers of each task's first uses of a signal, as a writer and as a reader.
@@ -27,75 +26,53 @@ pub struct Access {
     pub writer: usize,
 }
 
-// A task that reads the signal is sent to the element that stands.
-fn reader_opens(
-    task: Task,
-    access: Access,
-    k: usize,
-    tick: u32,
-    uses: &mut [u8; MOST_USES],
-    state: Standing,
-) -> Standing
-    requires { Opens task access k tick × (state.element < most_elements) }
-    ensures { (held own : List ℕ) → choice_of held own uses.new result ≡ reads_by task access tick (choice_of held own uses.old state) }
-{
-    if access.reads {
-        let i = tick / task.period;
-        return send(
-            uses,
-            access.reader + i as usize,
-            i * task.period + task.end,
-            state,
-        );
+impl Elements {
+    // A task that reads the signal is sent to the element that stands.
+    fn reader_opens(&mut self, task: Task, access: Access, tick: u32, uses: &mut [u8; MOST_USES])
+        requires { Opens task access tick }
+        ensures { choice_of self.new uses.new ≡ reads_by task access tick (choice_of self.old uses.old) }
+    {
+        if access.reads {
+            let i = tick / task.period;
+            self.send(uses, access.reader + i as usize, i * task.period + task.end);
+        }
     }
-    state
-}
 
-// A task that writes it takes a free one.
-fn writer_opens(
-    task: Task,
-    access: Access,
-    k: usize,
-    tick: u32,
-    held: &mut [u32; MOST_ELEMENTS],
-    own: &mut [usize; MOST_TASKS],
-    uses: &mut [u8; MOST_USES],
-    state: Standing,
-) -> Standing
-    requires { Opens task access k tick }
-    ensures { choice_of held.new own.new uses.new result ≡ writes_by task access k tick (choice_of held.old own.old uses.old state) }
-{
-    if access.writes {
-        let i = tick / task.period;
-        return take(held, own, uses, access.writer + i as usize, k, tick, state);
+    // A task that writes it takes a free one.
+    fn writer_opens(
+        &mut self,
+        task: Task,
+        access: Access,
+        k: usize,
+        tick: u32,
+        uses: &mut [u8; MOST_USES],
+    )
+        requires { Opens task access tick × (k < most_tasks) }
+        ensures { choice_of self.new uses.new ≡ writes_by task access k tick (choice_of self.old uses.old) }
+    {
+        if access.writes {
+            let i = tick / task.period;
+            self.take(uses, access.writer + i as usize, k, tick);
+        }
     }
-    state
-}
 
-// One opening or closing.
-fn turn(
-    task: Task,
-    access: Access,
-    event: u32,
-    held: &mut [u32; MOST_ELEMENTS],
-    own: &mut [usize; MOST_TASKS],
-    uses: &mut [u8; MOST_USES],
-    state: Standing,
-) -> Standing
-    requires { Turns task access event × (state.element < most_elements) }
-    ensures { choice_of held.new own.new uses.new result ≡ turn_of task access event (choice_of held.old own.old uses.old state) }
-{
-    let k = (event % KIND) as usize;
-    let kind = event / KIND;
-    let tick = kind / 2;
-    if kind % 2 == 1 {
-        let sent = reader_opens(task, access, k, tick, uses, state);
-        return writer_opens(task, access, k, tick, held, own, uses, sent);
+    // One opening or closing.
+    fn turn(&mut self, task: Task, access: Access, event: u32, uses: &mut [u8; MOST_USES])
+        requires { Turns task access event }
+        ensures { choice_of self.new uses.new ≡ turn_of task access event (choice_of self.old uses.old) }
+    {
+        let k = (event % KIND) as usize;
+        let kind = event / KIND;
+        let tick = kind / 2;
+        if kind % 2 == 1 {
+            self.reader_opens(task, access, tick, uses);
+            self.writer_opens(task, access, k, tick, uses);
+            return;
+        }
+        if access.writes {
+            self.publish(k, tick);
+        }
     }
-    if access.writes {
-        return publish(held, own, k, tick, state);
-    }
-    state
 }
 
 // The elements of the signal's uses, in the order of their records, and how many elements there are.
@@ -103,25 +80,16 @@ pub fn plan_signal(
     tasks: Tasks,
     grid: &[[u8; MOST_SIGNALS]; MOST_TASKS],
     signal: usize,
-    events: &[u32; MOST_EVENTS],
-    count: usize,
+    events: &[u32],
     numbers: Numbers,
     uses: &mut [u8; MOST_USES],
 ) -> u32
-    requires { Ready tasks grid.now signal events.now count numbers }
-    ensures { (result ≡ (chosen (pass_table tasks grid.now) signal uses.old).count) × (uses.new ≡ (chosen (pass_table tasks grid.now) signal uses.old).uses) }
+    requires { Ready tasks grid.now signal events.now numbers }
+    ensures few { result ≤ most_elements }
+    ensures chosen { (result ≡ (chosen (pass_table tasks grid.now) signal uses.old).count) × (uses.new ≡ (chosen (pass_table tasks grid.now) signal uses.old).uses) }
 {
-    let mut held = [0u32; MOST_ELEMENTS];
-    held[CARRIED_ELEMENT] = NEVER;
-    let mut own = [0usize; MOST_TASKS];
-    let mut state = Standing {
-        element: CARRIED_ELEMENT,
-        reach: 0,
-        count: 1,
-    };
-    let mut n: usize = 0;
-    while n < count {
-        let event = events[n];
+    let mut elements = Elements::new();
+    for &event in events {
         let k = (event % KIND) as usize;
         let access = Access {
             reads: reads(grid, k, signal),
@@ -129,16 +97,7 @@ pub fn plan_signal(
             reader: numbers.readers[k],
             writer: numbers.writers[k],
         };
-        state = turn(
-            tasks.list[k],
-            access,
-            event,
-            &mut held,
-            &mut own,
-            uses,
-            state,
-        );
-        n += 1;
+        elements.turn(tasks.list[k], access, event, uses);
     }
-    state.count
+    elements.count
 }

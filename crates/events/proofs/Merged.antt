@@ -1,6 +1,6 @@
 -- Taking the least of each task's next openings and closings gives all of them in their order. Assumes nothing.
 use mathlib.Core.List.{List, [], ◌∷◌, ◌++◌}
-use mathlib.Core.Logic.{◌⊎◌, inl, inr, ⊎_elim}
+use mathlib.Core.Logic.{inl, inr, ⊎_elim}
 use mathlib.Core.Path.{◌≡◌, refl, sym, ap, ◌∙◌}
 use Prim.Native.Nat.{ℕ, suc, ◌+◌, ◌*◌, ◌-◌, ◌≤◌, ◌<◌, zero-le}
 use native.Mathlib.Nat.{mul-le-mul_right}
@@ -23,25 +23,7 @@ use Rattle.theory.proofs.Events.{itself, Up, Numbers, IsEvent, events_are, few_e
 use Rattle.events.specs.Order.{tasks_table, FirstOpenings, following_of, Leads, most_events, ordered}
 use Rattle.events.specs.declared.Events.{Events}
 
--- ---- the least of some numbers
-
-pub leads_one : (next : List ℕ) → Leads next 1 0
-leads_one next = record { one = omega arith; low = λ j h. let e : j ≡ 0 = omega arith in rw e (omega arith) }
-
-pub leads_more : (next : List ℕ) (k b r : ℕ) → Leads next k b → ((get_or next k 0 < get_or next b 0) × (r ≡ k)) ⊎ ((get_or next b 0 ≤ get_or next k 0) × (r ≡ b)) → Leads next (k + 1) r
-leads_more next k b r L c = ⊎_elim (λ x. rw x.1 (record { one = omega arith; low = λ j h. at j h (omega (arith, x.0)) (λ l. omega (arith, L.low j l, x.0)) }))
-    (λ x. rw x.1 (record { one = omega (arith, L.one); low = λ j h. at j h x.0 (λ l. L.low j l) })) c
-  where
-    at : {x : ℕ} (j : ℕ) → j < k + 1 → x ≤ get_or next k 0 → (j < k → x ≤ get_or next j 0) → x ≤ get_or next j 0
-    at j h a f = split (eqb j k) (λ q. rw (eqb-true j k q) a) (λ q. let z = eqb-false j k q in f (omega arith))
-
 -- ---- one more number in an array
-
-pub openings_more : (tasks : Tasks) (next : List ℕ) (k v : ℕ) → k < length next → FirstOpenings tasks k next → v ≡ opening_number (task_of tasks k).start k → FirstOpenings tasks (k + 1) (set next k v)
-openings_more tasks next k v h f e j l =
-    split (eqb j k)
-    (λ q. rw (eqb-true j k q, get_or-set_same next k v 0 h) e)
-    (λ q. let z = eqb-false j k q in rw (get_or-set_other next k j v 0 z) (f j (omega arith)))
 
 set_next : (xs zs : List ℕ) (z e : ℕ) → set (xs ++ z ∷ zs) (length xs) e ≡ (xs ++ e ∷ []) ++ zs
 set_next [] zs z e = refl

@@ -11,7 +11,7 @@ use Rattle.machine.specs.Calls.{keeping, unloaded, Left, step_in, read_in, write
 use Rattle.machine.specs.Load.{load_leaves}
 
 -- the number and the place of what is told
-abbrev Tells : Told → (number place : ℕ) → Type 0
+abbrev pub Tells : Told → (number place : ℕ) → Type 0
 Tells t number place = (number ≡ t.number) × (place ≡ t.place)
 
 -- and what is left in what was lent

@@ -2,24 +2,28 @@
 // place that is not always 0, it goes through the last parameter. A machine is the three lists that its caller lends. Crate `export_c` hands them to C.
 #![tactic(auto)]
 
-ghost use Rattle.std.specs.Prelude.{◌≡◌};
 ghost use Rattle.rules.specs.Numbers.{told};
-ghost use Rattle.export.specs.Numbers.{numbered};
-ghost use Rattle.export.specs.Gives.{PressTableGives, PressPlanGives, PressCheckGives, PressLiveGives, PressNewGives, PressLoadGives, PressStepGives, PressReadGives, PressWriteGives, PressOpenGives};
+ghost use Rattle.export.specs.Gives.{Tells, PressTableGives, PressPlanGives, PressCheckGives, PressLiveGives, PressNewGives, PressLoadGives, PressStepGives, PressReadGives, PressWriteGives, PressOpenGives};
 
 use lives::LiveValue;
 use machine::lists;
 use rules::{Answer, MOST_SIGNALS, WORDS};
 use state::NUMBERS;
 
+// The number of an answer comes back, and its place goes where the caller has room for it.
+fn tell(answer: Answer, place: &mut usize) -> u8
+    ensures { Tells (told answer) result place.new }
+{
+    *place = answers::place(answer);
+    answers::number(answer)
+}
+
 // Reading a table: 0, or 1 to 11.
 pub fn press_table(table: &[u8], place: &mut usize) -> u8
     ensures { PressTableGives table.now result place.new }
 {
     let read = table::read_table(table);
-    let verdict = read.answer;
-    *place = answers::place(verdict);
-    answers::number(verdict)
+    tell(read.hyper.and(Ok(0)), place)
 }
 
 // Planning a table into the lent buffer: 0 with the bytes planned, or 1 to 14.
@@ -27,8 +31,7 @@ pub fn press_plan(table: &[u8], out: &mut [u8], place: &mut usize) -> u8
     ensures { PressPlanGives table.now out.old result place.new out.new }
 {
     let planned = plan::plan(table, out);
-    *place = answers::place(planned);
-    answers::number(planned)
+    tell(planned, place)
 }
 
 // Checking a schedule that was made elsewhere: 0, 1 to 11 for the table, or 15 to 22.
@@ -36,34 +39,15 @@ pub fn press_check(table: &[u8], schedule: &[u8], place: &mut usize) -> u8
     ensures { PressCheckGives table.now schedule.now result place.new }
 {
     let checked = inspect::check_schedule(table, schedule);
-    *place = answers::place(checked);
-    answers::number(checked)
-}
-
-// The number and the place of an answer.
-#[derive(Clone, Copy)]
-pub struct Numbered {
-    pub number: u8,
-    pub place: usize,
-}
-
-fn numbers_of(answer: Answer) -> Numbered
-    ensures { result ≡ numbered (told answer) }
-{
-    Numbered {
-        number: answers::number(answer),
-        place: answers::place(answer),
-    }
+    tell(checked, place)
 }
 
 // The live list of a signal at the front of the lent list: 0 with the records filled, 1 to 12, 14 or 23.
 pub fn press_live(table: &[u8], signal: usize, list: &mut [LiveValue], place: &mut usize) -> u8
     ensures { PressLiveGives table.now signal list.old result place.new list.new }
 {
-    let answer = lives::live_list(table, signal, list);
-    let told = numbers_of(answer);
-    *place = told.place;
-    told.number
+    let filled = lives::live_list(table, signal, list);
+    tell(filled, place)
 }
 
 // A machine before its first loading, so unfit.
@@ -91,8 +75,7 @@ pub fn press_lists_load<'a, 'b>(
     ensures { PressLoadGives numbers.old defaults.old store.old table.now schedule.now result place.new numbers.new defaults.new store.new }
 {
     let loaded = lists::load(numbers, defaults, store, table, schedule);
-    *place = answers::place(loaded);
-    answers::number(loaded)
+    tell(loaded, place)
 }
 
 // The next tick: 0, or 25.
@@ -117,9 +100,8 @@ pub fn press_lists_read<'a>(
     ensures { PressReadGives numbers.now store.now task signal result word.new }
 {
     let read = lists::read(numbers, store, task, signal);
-    let answer = read.answer;
     *word = read.word;
-    answers::number(answer)
+    answers::number(read.answer)
 }
 
 // A task's write to a signal: 0, or 23 to 25.
@@ -140,7 +122,6 @@ pub fn press_lists_open(numbers: &[u16; NUMBERS], task: usize, instance: &mut u1
     ensures { PressOpenGives numbers.now task result instance.new }
 {
     let open = lists::open_instance(numbers, task);
-    let answer = open.answer;
     *instance = open.instance;
-    answers::number(answer)
+    answers::number(open.answer)
 }

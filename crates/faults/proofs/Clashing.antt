@@ -2,10 +2,14 @@
 use mathlib.Core.Path.{◌≡◌, refl, sym, ap, ap₂, ◌∙◌}
 use mathlib.Core.Bool.{Bool, true, false, not, ◌&&◌, ◌||◌}
 use mathlib.Core.Logic.{⊎_elim}
-use mathlib.Core.List.{List}
 use Prim.Native.Nat.{ℕ, ◌≤◌, ◌<◌}
 use native.Mathlib.Omega.{arith}
+use Rattle.std.proofs.Math.Nat.{zero-add}
 use lib.Dec.{eqb, ltb}
+use lib.ListN.{length}
+use Rattle.std.specs.Bool.{MatchBool}
+use Rattle.std.specs.List.{range_with_len, AllWithin, HoldsAt}
+use Rattle.std.proofs.lemmas.List.FromFn.{length-range_with_len, get_or-range_with_len}
 use borrow.Author.Tests.{eqb-true, ltb-true, lt-ltb, eq-eqb}
 use Rattle.rules.specs.Words.{every, when}
 use Rattle.rules.specs.Windows.{Table}
@@ -15,19 +19,25 @@ use Rattle.rules.specs.Schedule.{Schedule, element_of, clash}
 use Rattle.rules.specs.Bytes.{wi}
 use Rattle.rules.specs.Answers.{sharing}
 use Rattle.rules.specs.Reading.{Grid, writes_in}
-use Rattle.theory.proofs.Tests.{agree, no_test, both, both3, and_is, is, holds, unless, unless_is, or_cases, or_left, or_right}
+use Rattle.theory.proofs.Tests.{agree, no_test, not_both, both, both3, and_is, is, holds, unless, unless_is, or_cases, or_left, or_right}
 use Rattle.theory.proofs.Check.{every_at, every_is, writer_at, writer_is}
 use Rattle.form.specs.declared.sides.Side.{Side}
-use Rattle.table.proofs.Clashes.{every_fails, every_holds}
-use Rattle.faults.specs.declared.View.{View}
+use Rattle.faults.specs.declared.view.View.{View}
 use Rattle.faults.specs.declared.sharing.Held.{Held}
+use Rattle.faults.specs.declared.untils.Untils.{Untils}
 use Rattle.faults.specs.declared.untils.Writer.{Writer}
-use Rattle.faults.specs.Faults.{view_table, view_schedule, Seen, Has, records_in, held_of, clashing, apart_from, apart_from_earlier, Kept, writer_of, held_at, carried_in}
+use Rattle.faults.specs.Faults.{view_table, view_schedule, Has, records_in, view_records, held_of, clashing, apart_from, apart_from_task, apart_from_earlier, writer_of, held_at, carried_in}
 use Rattle.faults.proofs.Viewed.{has_of, has_below, held_is}
 use Rattle.faults.proofs.Numbered.{value_is}
 
 every_same : (n : ℕ) (p q : ℕ → Bool) → ((k : ℕ) → k < n → p k ≡ q k) → every n p ≡ every n q
 every_same n p q f = agree (λ e. every_is n q (λ k h. sym (f k h) ∙ every_at n p e k h)) (λ e. every_is n p (λ k h. f k h ∙ every_at n q e k h))
+
+-- a chain that asks a test of each number below n
+pub every_below : (r : Bool) (n : ℕ) (p : ℕ → Bool)
+    → MatchBool r (AllWithin (λ i. p i ≡ true) (range_with_len 0 n) 0 (length (range_with_len 0 n))) ((k : ℕ) × (k < length (range_with_len 0 n)) × HoldsAt (λ i. p i ≡ false) (range_with_len 0 n) k) → r ≡ every n p
+every_below true n p h = sym (every_is n p (λ k l. rw (get_or-range_with_len 0 n k 0 l, zero-add) at (h k 0 (omega arith) (omega (arith, length-range_with_len 0 n)))))
+every_below false n p (k, l, h) = let m : k < n = omega (arith, length-range_with_len 0 n) in sym (no_test (every n p) (λ a. not_both (every_at n p a k m) (rw (get_or-range_with_len 0 n k 0 m, zero-add) at (h 0))))
 
 -- the same values
 apart_same : (values others : ℕ → Held) (held : Held) {r : Bool} {n m : ℕ} → r ≡ apart_from values held n → n ≡ m → ((i : ℕ) → i < n → values i ≡ others i) → apart_from others held m ≡ r
@@ -35,20 +45,20 @@ unfolding apart_from
 apart_same values others held {r} {n} {m} e q f = sym (e ∙ every_same n _ _ (λ i h. ap (λ (v : Held). not (clashing v held)) (f i h)) ∙ ap (apart_from others held) q)
 
 -- those of task k, from what is kept
-pub apart_is : (v : View) (grid : Grid) (bytes : List ℕ) → Seen v grid bytes → (untils : List ℕ) → Kept v grid untils → (k : ℕ) → k < v.tasks.count → {w : Writer} → w ≡ writer_of v k → (held : Held) {r : Bool} {n m : ℕ} → n ≤ records_in (view_table v grid) grid Side.Writers v.signal k → n ≡ m
-    → r ≡ apart_from (held_at w untils bytes) held n → apart_from (λ j. held_of (view_table v grid) (view_schedule v grid bytes) (by v.signal k j)) held m ≡ r
-apart_is v grid bytes K untils A k h {w} e held l q a =
-    apart_same (held_at w untils bytes) (λ j. held_of (view_table v grid) (view_schedule v grid bytes) (by v.signal k j)) held a q (λ i m. value_is v grid bytes K k e untils A i (has_of v grid Side.Writers k i h l m))
+pub apart_is : (u : Untils) (k : ℕ) → k < u.view.accepted.now.tasks.count → {w : Writer} → w ≡ writer_of u.view k → (held : Held) {r : Bool} {n m : ℕ} → n ≤ view_records u.view Side.Writers k → n ≡ m
+    → r ≡ apart_from (held_at w u.ticks u.view.schedule.now) held n → apart_from (λ j. held_of (view_table u.view) (view_schedule u.view) (by u.view.signal k j)) held m ≡ r
+apart_is u k h {w} e held l q a =
+    apart_same (held_at w u.ticks u.view.schedule.now) (λ j. held_of (view_table u.view) (view_schedule u.view) (by u.view.signal k j)) held a q (λ i m. value_is u.view k e u.ticks u.kept i (has_of u.view Side.Writers k i h l m))
 
 -- the earlier tasks, then the earlier instances of the same task
-module _ (tab : Table) (grid : Grid) (E : Schedule) (s : ℕ) (held : Held) (k i : ℕ) where
-  pub earlier_fails : (l : ℕ) → l < k → apart_from (λ j. held_of tab E (by s l j)) held (records_in tab grid Side.Writers s l) ≡ false → false ≡ apart_from_earlier tab grid E s held k i
+module _ (tab : Table) (grid : Grid) (E : Schedule) (s : ℕ) (held : Held) (k i : ℕ) {e : Bool} (h : e ≡ every k (apart_from_task tab grid E s held)) where
+  pub earlier_fails : e ≡ false → e ≡ apart_from_earlier tab grid E s held k i
   unfolding apart_from_earlier
-  earlier_fails l h e = ap (λ (b : Bool). b && apart_from (λ j. held_of tab E (by s k j)) held i) (every_fails k l _ h e)
+  earlier_fails q = q ∙ ap (λ (b : Bool). b && apart_from (λ j. held_of tab E (by s k j)) held i) (sym q ∙ h)
 
-  pub earlier_holds : {r : Bool} → r ≡ apart_from (λ j. held_of tab E (by s k j)) held i → ((l : ℕ) → l < k → apart_from (λ j. held_of tab E (by s l j)) held (records_in tab grid Side.Writers s l) ≡ true) → r ≡ apart_from_earlier tab grid E s held k i
+  pub earlier_holds : {r : Bool} → e ≡ true → r ≡ apart_from (λ j. held_of tab E (by s k j)) held i → r ≡ apart_from_earlier tab grid E s held k i
   unfolding apart_from_earlier
-  earlier_holds e f = e ∙ ap (λ (b : Bool). b && apart_from (λ j. held_of tab E (by s k j)) held i) (every_holds k _ f)
+  earlier_holds q a = a ∙ ap (λ (b : Bool). b && apart_from (λ j. held_of tab E (by s k j)) held i) (sym q ∙ h)
 
 module _ (tab : Table) (E : Schedule) where
   clash_is : (u v : Value) → same u v ≡ false → clash tab E u v ≡ clashing (held_of tab E u) (held_of tab E v)
@@ -65,12 +75,18 @@ module _ (tab : Table) (E : Schedule) where
   unfolding same
   other s l j k i n = no_test _ (λ e. let b = both3 (eqb s s) (eqb l k) (eqb j i) e in n (eqb-true l k b.1) (eqb-true j i b.2))
 
-module _ (v : View) (grid : Grid) (bytes : List ℕ) (K : Seen v grid bytes) (k i : ℕ) (H : Has v grid Side.Writers k i) where
+module _ (u : Untils) (k i : ℕ) (H : Has u.view Side.Writers k i) where
+  abbrev v : View
+  v = u.view
+
+  abbrev grid : Grid
+  grid = v.accepted.now.grid
+
   abbrev tab : Table
-  tab = view_table v grid
+  tab = view_table v
 
   abbrev E : Schedule
-  E = view_schedule v grid bytes
+  E = view_schedule v
 
   abbrev s : ℕ
   s = v.signal
@@ -90,7 +106,7 @@ module _ (v : View) (grid : Grid) (bytes : List ℕ) (K : Seen v grid bytes) (k 
       agree
       (λ e. and_is
       (every_is k _ (λ l h. every_is _ _ (λ j m.
-      let (a, w, b) = has_of v grid Side.Writers l j (omega (arith, H.0)) (omega arith) m in
+      let (a, w, b) = has_of v Side.Writers l j (omega (arith, H.0)) (omega arith) m in
       ap not (sym (clash_own l j (λ q. let z : ⊥ = omega arith in absurd z))) ∙ unless (earlier l j) _ (writer_at tab s _ e l j a (holds w) b) (or_left (ltb l k) _ (lt-ltb l k h)))))
       (every_is i _ (λ j m.
       ap not (sym (clash_own k j (λ p q. omega arith))) ∙ unless (earlier k j) _ (writer_at tab s _ e k j H.0 (holds H.1) (omega (arith, H.2))) (or_right (ltb k k) _ (and_is (eq-eqb k k refl) (lt-ltb j i m))))))
@@ -100,7 +116,7 @@ module _ (v : View) (grid : Grid) (bytes : List ℕ) (K : Seen v grid bytes) (k 
       ⊎_elim
       (λ x.
       let z = ltb-true l k x in
-      ap not (clash_own l j (λ p. let y : ⊥ = omega arith in absurd y)) ∙ every_at _ _ (every_at k _ a.0 l z) j (has_below v grid Side.Writers l j (h, is (writes_in grid s l) w, m)))
+      ap not (clash_own l j (λ p. let y : ⊥ = omega arith in absurd y)) ∙ every_at _ _ (every_at k _ a.0 l z) j (has_below v Side.Writers l j (h, is (writes_in grid s l) w, m)))
       (λ x.
       let b = both (eqb l k) (ltb j i) x in
       let z = ltb-true j i b.1 in
@@ -112,12 +128,12 @@ module _ (v : View) (grid : Grid) (bytes : List ℕ) (K : Seen v grid bytes) (k 
   unfolding same
   sharing_is = ap₂ (λ (a b : Bool). a || not b) (clash_is tab E (carried s) (by s k i) refl) earlier_is
 
-  module _ {held first : Held} {b : Bool} (e : held ≡ own) (untils : List ℕ) (A : Kept v grid untils) (f : first ≡ carried_in untils) (q : b ≡ clashing first held) where
+  module _ {held first : Held} {b : Bool} (e : held ≡ own) (f : first ≡ carried_in u.ticks) (q : b ≡ clashing first held) where
     carried_said : b ≡ clashing (held_of tab E (carried s)) own
-    carried_said = q ∙ ap₂ clashing (f ∙ held_is 0 refl A.first) e
+    carried_said = q ∙ ap₂ clashing (f ∙ held_is 0 refl u.kept.first) e
 
-    pub shares_carried : b ≡ true → true ≡ sharing tab E (wi s k i)
-    shares_carried t = sym (sharing_is ∙ or_left _ _ (sym carried_said ∙ t))
+    pub shares_carried : b ≡ true → b ≡ sharing tab E (wi s k i)
+    shares_carried t = t ∙ sym (sharing_is ∙ or_left _ _ (sym carried_said ∙ t))
 
     pub shares_earlier : b ≡ false → {r : Bool} → r ≡ apart_from_earlier tab grid E s held k i → not r ≡ sharing tab E (wi s k i)
     shares_earlier t a = ap not (a ∙ ap (λ (h : Held). apart_from_earlier tab grid E s h k i) e) ∙ sym (sharing_is ∙ ap (λ (x : Bool). x || not (apart_from_earlier tab grid E s own k i)) (sym carried_said ∙ t))

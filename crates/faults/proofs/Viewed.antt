@@ -2,7 +2,6 @@
 use mathlib.Core.Path.{◌≡◌, refl, sym, ap, ap₂, subst, ◌∙◌}
 use mathlib.Core.Bool.{Bool, true, false}
 use mathlib.Core.Logic.{◌⊎◌, inl, inr, ⊎_elim}
-use mathlib.Core.List.{List}
 use Prim.Native.Nat.{ℕ, suc, ◌+◌, ◌*◌, ◌/◌, ◌≤◌, ◌<◌}
 use native.Mathlib.Omega.{arith}
 use lib.Dec.{T}
@@ -13,7 +12,7 @@ use Rattle.rules.specs.Values.{Value, carried, by, signal_of, bound, closing, un
 use Rattle.rules.specs.Table.{longest, most_signals, Fits}
 use Rattle.rules.specs.Schedule.{Schedule, element_of}
 use Rattle.rules.specs.Bytes.{Part, bf, wi, ri, writers_below, readers_below, size_of, start_of, schedule_length, schedule_in}
-use Rattle.rules.specs.Reading.{Grid, task_of, writes_in, reads_in}
+use Rattle.rules.specs.Reading.{task_of, writes_in, reads_in}
 use Rattle.theory.proofs.Tests.{is, holds}
 use Rattle.theory.proofs.Time.{closes_le}
 use Rattle.theory.proofs.Sums.{length_is}
@@ -23,37 +22,34 @@ use Rattle.signals.specs.Forms.{publication_of, binding_of, until_of}
 use Rattle.signals.proofs.Standing.{binding_is}
 use Rattle.signals.proofs.Lives.{until_is}
 use Rattle.events.proofs.Alone.{fits_alone}
-use Rattle.table.specs.declared.reading.TableRead.{TableRead}
+use Rattle.accept.specs.Accepts.{its_table}
+use Rattle.accept.specs.declared.Accepted.{Accepted}
 use Rattle.form.specs.declared.sides.Side.{Side}
 use Rattle.form.specs.Records.{Ready, permits, use_of}
 use Rattle.form.proofs.Steps.{all_times}
 use Rattle.form.proofs.Parted.{ready}
-use Rattle.sweep.specs.Pass.{grid_table, element_at, longest_bytes, ArePlaces}
-use Rattle.sweep.specs.declared.Places.{Places}
+use Rattle.sweep.specs.Pass.{grid_table, element_at, longest_bytes}
 use Rattle.sweep.proofs.Inspected.{total_within, writer_step, reader_step, writer_inside, reader_inside}
-use Rattle.faults.specs.declared.View.{View}
+use Rattle.faults.specs.declared.view.View.{View}
 use Rattle.faults.specs.declared.sharing.Held.{Held}
-use Rattle.faults.specs.Faults.{view_table, view_schedule, read_table, Accepted, Seen, Has, first_of, records_in, clashing}
+use Rattle.faults.specs.Faults.{view_table, view_schedule, Has, first_of, records_in, view_records}
 
 -- an instance of a task that has records
 one_of : (b : Bool) (n i : ℕ) → i < times b n → (b ≡ true) × (i < n)
 one_of true n i h = (refl, h)
 one_of false n i h = absurd (omega arith)
 
-pub first_on : (places : Places) (k : ℕ) {side other : Side} → side ≡ other → first_of places side k ≡ first_of places other k
-first_on places k e = ap (λ x. first_of places x k) e
-
 -- one of the records of task k
-pub has_of : (v : View) (grid : Grid) (side : Side) (k i : ℕ) {n : ℕ} → k < v.tasks.count → n ≤ records_in (view_table v grid) grid side v.signal k → i < n → Has v grid side k i
+pub has_of : (v : View) (side : Side) (k i : ℕ) {n : ℕ} → k < v.accepted.now.tasks.count → n ≤ view_records v side k → i < n → Has v side k i
 unfolding records_in
-has_of v grid side k i h l m = let o = one_of (permits grid side v.signal k) (instances (view_table v grid) k) i (omega arith) in (h, o.0, o.1)
+has_of v side k i h l m = let o = one_of (permits v.accepted.now.grid side v.signal k) (instances (view_table v) k) i (omega arith) in (h, o.0, o.1)
 
-pub has_below : (v : View) (grid : Grid) (side : Side) (k i : ℕ) → Has v grid side k i → i < records_in (view_table v grid) grid side v.signal k
+pub has_each : (v : View) (side : Side) {k i n : ℕ} → k < v.accepted.now.tasks.count → n ≡ view_records v side k → i < n → Has v side k i
+has_each v side h e m = has_of v side _ _ h (omega (arith, e)) m
+
+pub has_below : (v : View) (side : Side) (k i : ℕ) → Has v side k i → i < view_records v side k
 unfolding records_in
-has_below v grid side k i (h, w, l) = rw w l
-
-pub same_clash : {r : Bool} {a b : Held} (held : Held) → r ≡ clashing a held → a ≡ b → clashing b held ≡ r
-same_clash held e q = sym (e ∙ ap (λ (h : Held). clashing h held) q)
+has_below v side k i (h, w, l) = rw w l
 
 abbrev made : ℕ → ℕ → ℕ → Held
 made from element until = record { element = element; from = from; until = until }
@@ -65,115 +61,112 @@ pub none_below : (tab : Table) (s : ℕ) → writers_below tab s 0 ≡ 0
 unfolding writers_below total
 none_below tab s = refl
 
-module _ (v : View) (grid : Grid) (bytes : List ℕ) (K : Seen v grid bytes) where
+module _ (v : View) where
+  abbrev a : Accepted
+  a = v.accepted.now
+
   abbrev tab : Table
-  tab = view_table v grid
+  tab = view_table v
 
   abbrev E : Schedule
-  E = view_schedule v grid bytes
+  E = view_schedule v
 
   abbrev s : ℕ
   s = v.signal
 
-  pub view_ready : Ready v.tasks v.signals.count v.hyper
-  view_ready = ready v.tasks v.signals grid v.hyper v.signals.count K.fits K.period refl
+  pub view_ready : Ready a.tasks a.signals.count a.hyper
+  view_ready = ready a.tasks a.signals a.grid a.hyper a.signals.count a.fits a.own refl
 
   -- places do not depend on the signals' number
-  start_alone : (x : Part) → start_of (grid_table v.tasks grid) x ≡ start_of tab x
+  start_alone : (x : Part) → start_of (grid_table a.tasks a.grid) x ≡ start_of tab x
   unfolding hyper writers_below readers_below size_of start_of
   start_alone (bf r) = refl
   start_alone (wi r k i) = refl
   start_alone (ri r k i) = refl
 
-  whole_signal : (total (size_of tab) (suc s) + 2 ≤ length bytes) × (total (size_of tab) (suc s) + 2 ≤ longest_bytes)
+  whole_signal : (total (size_of tab) (suc s) + 2 ≤ length v.schedule.now) × (total (size_of tab) (suc s) + 2 ≤ longest_bytes)
   unfolding schedule_length total
   whole_signal =
-      let l = total_within (size_of tab) v.signals.count s K.signal in
-      (omega (arith, K.whole), omega (arith, length_is tab, K.fits.few_signals, K.fits.few_uses))
+      let l = total_within (size_of tab) a.signals.count s v.listed in
+      (omega (arith, v.whole), omega (arith, length_is tab, a.fits.few_signals, a.fits.few_uses))
 
   -- the element of a record stands where the code looks for it
-  pub place_is : (side : Side) (k i : ℕ) → Has v grid side k i → (first_of v.places side k + 7 * i ≡ start_of tab (use_of side s k i) + 6) × (start_of tab (use_of side s k i) + 6 < length bytes) × (start_of tab (use_of side s k i) + 6 ≤ longest_bytes)
+  pub place_is : (side : Side) (k i : ℕ) → Has v side k i → (first_of v.places side k + 7 * i ≡ start_of tab (use_of side s k i) + 6) × (start_of tab (use_of side s k i) + 6 < length v.schedule.now) × (start_of tab (use_of side s k i) + 6 ≤ longest_bytes)
   place_is Side.Writers k i (h, w, l) = (
-    omega (arith, K.areat.writers k h, start_alone (wi s k 0), writer_step tab s k i),
+    omega (arith, v.placed.writers k h, start_alone (wi s k 0), writer_step tab s k i),
     omega (arith, whole_signal.0, writer_inside tab s k i h w l),
     omega (arith, whole_signal.1, writer_inside tab s k i h w l),
   )
   place_is Side.Readers k i (h, w, l) = (
-    omega (arith, K.areat.readers k h, start_alone (ri s k 0), reader_step tab s k i),
+    omega (arith, v.placed.readers k h, start_alone (ri s k 0), reader_step tab s k i),
     omega (arith, whole_signal.0, reader_inside tab s k i h w l),
     omega (arith, whole_signal.1, reader_inside tab s k i h w l),
   )
 
   -- the writers' places tell how many records stand before theirs
-  pub places_apart : (k : ℕ) → k < v.tasks.count → get_or v.places.writers k 0 ≡ get_or v.places.writers 0 0 + 7 * writers_below tab s k
+  pub places_apart : (k : ℕ) → k < a.tasks.count → get_or v.places.writers k 0 ≡ get_or v.places.writers 0 0 + 7 * writers_below tab s k
   unfolding start_of
-  places_apart k h = omega (arith, K.areat.writers k h, start_alone (wi s k 0), K.areat.writers 0 (omega arith), start_alone (wi s 0 0), none_below tab s)
+  places_apart k h = omega (arith, v.placed.writers k h, start_alone (wi s k 0), v.placed.writers 0 (omega arith), start_alone (wi s 0 0), none_below tab s)
 
-  pub written_is : (k i : ℕ) → Has v grid Side.Writers k i → element_at bytes (get_or v.places.writers k 0) i ≡ E.writer s k i
+  pub written_is : (k i : ℕ) → Has v Side.Writers k i → element_at v.schedule.now (get_or v.places.writers k 0) i ≡ E.writer s k i
   unfolding schedule_in
-  written_is k i h = ap (λ n. get_or bytes n 0) (place_is Side.Writers k i h).0
+  written_is k i h = ap (λ n. get_or v.schedule.now n 0) (place_is Side.Writers k i h).0
 
-  pub read_is : (k i : ℕ) → Has v grid Side.Readers k i → element_at bytes (get_or v.places.readers k 0) i ≡ E.reader s k i
+  pub read_is : (k i : ℕ) → Has v Side.Readers k i → element_at v.schedule.now (get_or v.places.readers k 0) i ≡ E.reader s k i
   unfolding schedule_in
-  read_is k i h = ap (λ n. get_or bytes n 0) (place_is Side.Readers k i h).0
+  read_is k i h = ap (λ n. get_or v.schedule.now n 0) (place_is Side.Readers k i h).0
 
   -- instances open and close within the hyper-period
-  pub within : (side : Side) (k i : ℕ) → Has v grid side k i → (closes tab k i ≤ v.hyper) × (opens tab k i < closes tab k i) × (v.hyper ≤ longest)
+  pub within : (side : Side) (k i : ℕ) → Has v side k i → (closes tab k i ≤ a.hyper) × (opens tab k i < closes tab k i) × (a.hyper ≤ longest)
   within side k i (h, w, l) = (
-    omega (arith, closes_le tab K.fits k i h l, K.period),
-    omega (arith, K.fits.window k h),
-    omega (arith, K.period, K.fits.hyper_short),
+    omega (arith, closes_le tab a.fits k i h l, a.own),
+    omega (arith, a.fits.window k h),
+    omega (arith, a.own, a.fits.hyper_short),
   )
 
-  pub is_written : (k i : ℕ) → Has v grid Side.Writers k i → IsValue tab (by s k i)
-  is_written k i (h, w, l) = (K.signal, h, holds w, l)
+  pub is_written : (k i : ℕ) → Has v Side.Writers k i → IsValue tab (by s k i)
+  is_written k i (h, w, l) = (v.listed, h, holds w, l)
 
   -- the carried value is element 0, another is that of its WI
   abbrev Bound : ℕ → Publication → Type 0
-  Bound t p = ((p.task ≡ 255) × (0 ≡ element_of E (bound tab s t))) ⊎ (Has v grid Side.Writers p.task p.instance × (E.writer s p.task p.instance ≡ element_of E (bound tab s t)))
+  Bound t p = ((p.task ≡ 255) × (0 ≡ element_of E (bound tab s t))) ⊎ (Has v Side.Writers p.task p.instance × (E.writer s p.task p.instance ≡ element_of E (bound tab s t)))
 
   bound_by : (t : ℕ) (u : Value) → IsValue tab u → signal_of u ≡ s → bound tab s t ≡ u → Bound t (publication_of tab u)
   bound_by t (carried r) y e q = inl (refl, ap (element_of E) (sym q))
   bound_by t (by r k i) y e q =
-      inr ((y.1, is (writes_in grid s k) (subst (λ (z : ℕ). T (writes_in grid z k)) e y.2), y.3), ap (λ (z : ℕ). E.writer z k i) (sym e) ∙ ap (element_of E) (sym q))
+      inr ((y.1, is (writes_in a.grid s k) (subst (λ (z : ℕ). T (writes_in a.grid z k)) e y.2), y.3), ap (λ (z : ℕ). E.writer z k i) (sym e) ∙ ap (element_of E) (sym q))
 
-  module _ (t : ℕ) (h : t ≤ hyper tab) {p : Publication} (e : p ≡ binding_of v.tasks (writes_in grid s) t) where
+  module _ (t : ℕ) (h : t ≤ hyper tab) {p : Publication} (e : p ≡ binding_of a.tasks (writes_in a.grid s) t) where
     bound_cases : Bound t p
     bound_cases =
-        subst (Bound t) (sym (e ∙ binding_is v.tasks v.signals grid K.fits s t K.signal))
-        (bound_by t (bound tab s t) (bound_value tab K.fits s K.signal t h) (bound_signal tab s t) refl)
+        subst (Bound t) (sym (e ∙ binding_is a.tasks a.signals a.grid a.fits s t v.listed))
+        (bound_by t (bound tab s t) (bound_value tab a.fits s v.listed t h) (bound_signal tab s t) refl)
 
     pub bound_carried : p.task ≡ 255 → 0 ≡ element_of E (bound tab s t)
-    bound_carried q = ⊎_elim (λ x. x.1) (λ x. absurd (omega (arith, x.0.0, K.fits.few_tasks))) bound_cases
+    bound_carried q = ⊎_elim (λ x. x.1) (λ x. absurd (omega (arith, x.0.0, a.fits.few_tasks))) bound_cases
 
-    pub bound_written : (p.task ≡ 255 → ⊥) → Has v grid Side.Writers p.task p.instance × (E.writer s p.task p.instance ≡ element_of E (bound tab s t))
+    pub bound_written : (p.task ≡ 255 → ⊥) → Has v Side.Writers p.task p.instance × (E.writer s p.task p.instance ≡ element_of E (bound tab s t))
     bound_written n = ⊎_elim (λ x. absurd (n x.0)) (λ x. x) bound_cases
 
-  pub records_are : (side : Side) (k : ℕ) → permits grid side s k ≡ true → v.hyper / (task_of v.tasks k).period ≡ records_in tab grid side s k
+  pub records_are : (side : Side) (k : ℕ) → permits a.grid side s k ≡ true → a.hyper / (task_of a.tasks k).period ≡ records_in tab a.grid side s k
   unfolding records_in
-  records_are side k e = ap (λ n. n / (task_of v.tasks k).period) K.period ∙ all_times _ _ e
+  records_are side k e = ap (λ n. n / (task_of a.tasks k).period) a.own ∙ all_times _ _ e
 
   -- the end of a life
-  pub until_of_lem : (u : Value) → IsValue tab u → {r : ℕ} → r ≡ until_of v.tasks (writes_in grid (signal_of u)) (reads_in grid (signal_of u)) v.hyper (closing tab u) → r ≡ until tab u
+  pub until_of_lem : (u : Value) → IsValue tab u → {r : ℕ} → r ≡ until_of a.tasks (writes_in a.grid (signal_of u)) (reads_in a.grid (signal_of u)) a.hyper (closing tab u) → r ≡ until tab u
   until_of_lem u x h =
-      h ∙ ap (λ n. until_of v.tasks (writes_in grid (signal_of u)) (reads_in grid (signal_of u)) n (closing tab u)) K.period ∙ until_is v.tasks v.signals grid K.fits u x
+      h ∙ ap (λ n. until_of a.tasks (writes_in a.grid (signal_of u)) (reads_in a.grid (signal_of u)) n (closing tab u)) a.own ∙ until_is a.tasks a.signals a.grid a.fits u x
 
 -- ---- what the search of all signals starts from
 
-module _ (read : TableRead) (grid : Grid) (bytes : List ℕ) (A : Accepted read grid) (s : ℕ) (l : s < read.signals.count) where
-  pub places_asked : (start : ℕ) → start ≡ total (size_of (grid_table read.tasks grid)) s
-      → Fits (grid_table read.tasks grid) × (read.hyper ≡ hyper (grid_table read.tasks grid)) × (s < most_signals) × (start ≡ total (size_of (grid_table read.tasks grid)) s) × (start ≤ longest_bytes)
+module _ (a : Accepted) (s : ℕ) (l : s < a.signals.count) where
+  pub places_asked : (start : ℕ) → start ≡ total (size_of (grid_table a.tasks a.grid)) s
+      → Fits (grid_table a.tasks a.grid) × (a.hyper ≡ hyper (grid_table a.tasks a.grid)) × (s < most_signals) × (start ≡ total (size_of (grid_table a.tasks a.grid)) s) × (start ≤ longest_bytes)
   unfolding hyper writers_below readers_below size_of schedule_length
   places_asked start e = (
-    fits_alone read.tasks read.signals grid A.0 grid,
-    A.1,
-    omega (arith, A.0.few_signals),
+    fits_alone a.tasks a.signals a.grid a.fits a.grid,
+    a.own,
+    omega (arith, a.fits.few_signals),
     e,
-    omega (arith, total_within (size_of (read_table read grid)) read.signals.count s l, length_is (read_table read grid), A.0.few_signals, A.0.few_uses),
+    omega (arith, total_within (size_of (its_table a)) a.signals.count s l, length_is (its_table a), a.fits.few_signals, a.fits.few_uses),
   )
-
-  abbrev view : Places → View
-  view places = record { tasks = read.tasks; signals = read.signals; hyper = read.hyper; signal = s; places = places }
-
-  pub seen : (places : Places) → schedule_length (read_table read grid) ≤ length bytes → ArePlaces read.tasks grid s places → Seen (view places) grid bytes
-  seen places w L = record { fits = A.0; period = A.1; signal = l; areat = L; whole = w }

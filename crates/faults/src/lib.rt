@@ -5,22 +5,6 @@ mod readers;
 mod search;
 mod sharing;
 mod untils;
+mod view;
 
 pub use search::first_fault;
-
-// Where the first wrong record starts.
-#[derive(Clone, Copy)]
-pub enum Fault {
-    At(usize),
-    Nowhere,
-}
-
-// What is looked at for one signal: the table, the signal, and where its elements stand.
-#[derive(Clone, Copy)]
-pub struct View {
-    pub tasks: rules::Tasks,
-    pub signals: rules::Signals,
-    pub hyper: u32,
-    pub signal: usize,
-    pub places: sweep::Places,
-}

@@ -1,153 +1,118 @@
 // Record by record, signal after signal, until one is wrong.
-ghost use Rattle.std.specs.Prelude.{◌≡◌, List, ℕ, ◌+◌, ◌*◌, ◌-◌, ◌≤◌, ◌<◌, length};
+ghost use Rattle.std.specs.Prelude.{◌≡◌, Bool, ℕ, ◌+◌, ◌*◌, ◌-◌, ◌≤◌, ◌<◌, length};
 ghost use Rattle.rules.specs.Table.{most_tasks};
-ghost use Rattle.rules.specs.Bytes.{parts, schedule_length, schedule_in};
+ghost use Rattle.rules.specs.Bytes.{Part, parts, schedule_length, schedule_in};
 ghost use Rattle.rules.specs.Numbers.{Told};
 ghost use Rattle.rules.specs.Answers.{first_says};
-ghost use Rattle.form.specs.Records.{use_of, instance_parts};
-ghost use Rattle.form.specs.Form.{walked};
+ghost use Rattle.accept.specs.Accepts.{its_table};
+ghost use Rattle.form.specs.Records.{instance_parts};
 ghost use Rattle.sweep.specs.Pass.{longest_bytes};
-ghost use Rattle.faults.specs.declared.Fault.{Fault};
-ghost use Rattle.faults.specs.Faults.{read_table, Accepted, view_table, view_schedule, Seen, Has, KeptFor, first_of, records_in, side_of, wrong_of, seek, placed};
+ghost use Rattle.faults.specs.Faults.{view_table, view_schedule, CanJudge, Judges, first_of, view_records, view_side, wrong_of, first_in, placed};
 
-use crate::readers::sent_wrong;
-use crate::sharing::shares;
-use crate::untils::keep_for;
-use crate::{Fault, View};
+use crate::untils::Untils;
+use crate::view::View;
+use accept::Accepted;
 use form::{Side, permitted};
-use rules::{ELEMENT_AT, MOST_SIGNALS, MOST_TASKS, MOST_VALUES, USE_BYTES};
-use sweep::{Places, places_at};
-use table::TableRead;
+use rules::{ELEMENT_AT, USE_BYTES};
+use sweep::places_at;
 
-// The first wrong record: Side::Readers for 21, Side::Writers for 22.
-pub fn first_fault(
-    read: TableRead,
-    grid: &[[u8; MOST_SIGNALS]; MOST_TASKS],
-    side: Side,
-    schedule: &[u8],
-) -> Fault
-    requires { Accepted read grid.now × (schedule_length (read_table read grid.now) ≤ length schedule.now) }
-    ensures { (n : ℕ) (rest : Told) → placed result n rest ≡ first_says (read_table read grid.now) (wrong_of (read_table read grid.now) (schedule_in (read_table read grid.now) schedule.now) side) n (parts (read_table read grid.now)) rest }
+// Where the first wrong record starts: Side::Readers for 21, Side::Writers for 22.
+pub fn first_fault(accepted: &Accepted, side: Side, schedule: &[u8]) -> Option<usize>
+    requires { schedule_length (its_table accepted.now) ≤ length schedule.now }
+    ensures { (n : ℕ) (rest : Told) → placed result n rest ≡ first_says (its_table accepted.now) (wrong_of (its_table accepted.now) (schedule_in (its_table accepted.now) schedule.now) side) n (parts (its_table accepted.now)) rest }
 {
-    let tasks = read.tasks;
-    let signals = read.signals;
     let mut start: usize = 0;
-    let mut s: usize = 0;
-    while s < signals.count {
-        let located = places_at(tasks, read.hyper, grid, s, start);
-        let places = located.places;
+    for signal in 0..accepted.signals.count {
+        let located = places_at(
+            accepted.tasks,
+            accepted.hyper,
+            &accepted.grid,
+            signal,
+            start,
+        );
         let view = View {
-            tasks: tasks,
-            signals: signals,
-            hyper: read.hyper,
-            signal: s,
-            places: places,
+            accepted,
+            schedule,
+            signal,
+            places: located.places,
         };
-        match signal_fault(view, grid, side, schedule) {
-            Fault::At(at) => {
-                return Fault::At(at);
-            }
-            Fault::Nowhere => {}
+        if let Some(at) = signal_fault(&view, side) {
+            return Some(at);
         }
         start = located.end;
-        s += 1;
     }
-    Fault::Nowhere
+    None
 }
 
-// One signal, task by task.
-fn signal_fault(
-    view: View,
-    grid: &[[u8; MOST_SIGNALS]; MOST_TASKS],
-    side: Side,
-    schedule: &[u8],
-) -> Fault
-    requires { Seen view grid.now schedule.now }
-    ensures { result ≡ walked (seek (view_table view grid.now) (wrong_of (view_table view grid.now) (view_schedule view grid.now schedule.now) side)) (side_of (view_table view grid.now) grid.now side view.tasks.count view.signal) Fault.Nowhere }
+// One signal: what makes a record wrong depends on the side. 22 asks until when each value is live, worked out once.
+fn signal_fault(view: &View, side: Side) -> Option<usize>
+    ensures { result ≡ first_in (view_table view.now) (wrong_of (view_table view.now) (view_schedule view.now) side) (view_side view.now side view.now.accepted.now.tasks.count) }
 {
-    let mut untils: [u32; MOST_VALUES] = [0; MOST_VALUES];
-    keep_for(view, grid, side, &mut untils);
-    let tasks = view.tasks;
-    let mut k: usize = 0;
-    while k < tasks.count {
-        match task_fault(view, grid, &untils, side, k, schedule) {
-            Fault::At(at) => {
-                return Fault::At(at);
-            }
-            Fault::Nowhere => {}
+    match side {
+        Side::Readers => first_wrong(view, side, |task, instance| {
+            view.sent_wrong(task, instance)
+        }),
+        Side::Writers => {
+            let untils = Untils::new(view);
+            first_wrong(view, side, |task, instance| untils.shares(task, instance))
         }
-        k += 1;
     }
-    Fault::Nowhere
+}
+
+// The first record of a signal for which the test holds, task by task.
+fn first_wrong<F: Fn(usize, u32) -> bool>(view: &View, side: Side, is_wrong: F) -> Option<usize>
+    requires { CanJudge view.now side (F.pre is_wrong) }
+    ensures { (wrong : Part → Bool) → Judges view.now side (F.post is_wrong) wrong → result ≡ first_in (view_table view.now) wrong (view_side view.now side view.now.accepted.now.tasks.count) }
+{
+    for task in 0..view.accepted.tasks.count {
+        if let Some(at) = first_wrong_of(view, side, task, &is_wrong) {
+            return Some(at);
+        }
+    }
+    None
 }
 
 // One task, instance by instance.
-fn task_fault(
-    view: View,
-    grid: &[[u8; MOST_SIGNALS]; MOST_TASKS],
-    untils: &[u32; MOST_VALUES],
+fn first_wrong_of<F: Fn(usize, u32) -> bool>(
+    view: &View,
     side: Side,
     task: usize,
-    schedule: &[u8],
-) -> Fault
-    requires { Seen view grid.now schedule.now × KeptFor side view grid.now untils.now × (task < view.tasks.count) }
-    ensures { result ≡ walked (seek (view_table view grid.now) (wrong_of (view_table view grid.now) (view_schedule view grid.now schedule.now) side)) (instance_parts side view.signal task (records_in (view_table view grid.now) grid.now side view.signal task)) Fault.Nowhere }
+    is_wrong: &F,
+) -> Option<usize>
+    requires { CanJudge view.now side (F.pre is_wrong.now) × (task < view.now.accepted.now.tasks.count) }
+    ensures { (wrong : Part → Bool) → Judges view.now side (F.post is_wrong.now) wrong → result ≡ first_in (view_table view.now) wrong (instance_parts side view.now.signal task (view_records view.now side task)) }
 {
-    let records = records_of(view, grid, side, task);
-    let places = view.places;
-    let mut i: u32 = 0;
-    while i < records {
-        if is_wrong(view, grid, untils, side, task, i, schedule) {
-            return Fault::At(start_of(places, side, task, i));
+    let records = view.records(side, task);
+    for instance in 0..records {
+        if is_wrong(task, instance) {
+            return Some(view.start_of(side, task, instance));
         }
-        i += 1;
     }
-    Fault::Nowhere
+    None
 }
 
-fn is_wrong(
-    view: View,
-    grid: &[[u8; MOST_SIGNALS]; MOST_TASKS],
-    untils: &[u32; MOST_VALUES],
-    side: Side,
-    task: usize,
-    instance: u32,
-    schedule: &[u8],
-) -> bool
-    requires { Seen view grid.now schedule.now × KeptFor side view grid.now untils.now × Has view grid.now side task instance }
-    ensures { result ≡ wrong_of (view_table view grid.now) (view_schedule view grid.now schedule.now) side (use_of side view.signal task instance) }
-{
-    match side {
-        Side::Readers => sent_wrong(view, grid, task, instance, schedule),
-        Side::Writers => shares(view, grid, untils, task, instance, schedule),
+impl<'a> View<'a> {
+    // Where a record starts, from the place of its task's first element.
+    fn start_of(&self, side: Side, task: usize, instance: u32) -> usize
+        requires { (task < most_tasks) × (6 ≤ first_of self.now.places side task + 7 * instance) × (first_of self.now.places side task + 7 * instance ≤ longest_bytes) }
+        ensures { result ≡ first_of self.now.places side task + 7 * instance - 6 }
+    {
+        let first = match side {
+            Side::Readers => self.places.readers[task],
+            Side::Writers => self.places.writers[task],
+        };
+        first + USE_BYTES * instance as usize - ELEMENT_AT
     }
-}
 
-// Where a record starts, from the place of its task's first element.
-fn start_of(places: Places, side: Side, task: usize, instance: u32) -> usize
-    requires { (task < most_tasks) × (6 ≤ first_of places side task + 7 * instance) × (first_of places side task + 7 * instance ≤ longest_bytes) }
-    ensures { result ≡ first_of places side task + 7 * instance - 6 }
-{
-    match side {
-        Side::Readers => places.readers[task] + USE_BYTES * instance as usize - ELEMENT_AT,
-        Side::Writers => places.writers[task] + USE_BYTES * instance as usize - ELEMENT_AT,
+    // How many records the task has for the signal on this side.
+    pub fn records(&self, side: Side, task: usize) -> u32
+        requires { task < self.now.accepted.now.tasks.count }
+        ensures { result ≡ view_records self.now side task }
+    {
+        if permitted(&self.accepted.grid, task, self.signal, side) {
+            self.accepted.hyper / self.accepted.tasks.list[task].period
+        } else {
+            0
+        }
     }
-}
-
-// How many records the task has for the signal on this side.
-pub fn records_of(
-    view: View,
-    grid: &[[u8; MOST_SIGNALS]; MOST_TASKS],
-    side: Side,
-    task: usize,
-) -> u32
-    requires { ((bytes : List ℕ) × Seen view grid.now bytes) × (task < view.tasks.count) }
-    ensures { result ≡ records_in (view_table view grid.now) grid.now side view.signal task }
-{
-    if !permitted(grid, task, view.signal, side) {
-        return 0;
-    }
-    let tasks = view.tasks;
-    let task_of = tasks.list[task];
-    view.hyper / task_of.period
 }

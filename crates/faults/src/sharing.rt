@@ -3,13 +3,11 @@ ghost use Rattle.std.specs.Prelude.{◌≡◌, ℕ, ◌<◌};
 ghost use Rattle.rules.specs.Bytes.{wi};
 ghost use Rattle.rules.specs.Answers.{sharing};
 ghost use Rattle.form.specs.declared.sides.Side.{Side};
-ghost use Rattle.faults.specs.Faults.{view_table, view_schedule, Seen, Has, Kept, InReach, held_at, carried_in, clashing, apart_from, apart_from_earlier};
+ghost use Rattle.faults.specs.Faults.{view_table, view_schedule, Has, InReach, held_at, carried_in, clashing, apart_from, apart_from_task, apart_from_earlier};
 
-use crate::View;
-use crate::search::records_of;
-use crate::untils::{CARRIED_AT, Writer, writer_of};
+use crate::untils::{CARRIED_AT, Untils, Writer};
 use form::Side;
-use rules::{CARRIED_ELEMENT, MOST_SIGNALS, MOST_TASKS, MOST_VALUES};
+use rules::CARRIED_ELEMENT;
 use sweep::element_at;
 
 // The element of a value, and its life.
@@ -23,96 +21,63 @@ pub struct Held {
 fn clashes(a: Held, b: Held) -> bool
     ensures { result ≡ clashing a b }
 {
-    if a.element != b.element {
-        return false;
-    }
-    if b.until <= a.from {
-        return false;
-    }
-    b.from < a.until
+    a.element == b.element && a.from < b.until && b.from < a.until
 }
 
-fn carried_value(untils: &[u32; MOST_VALUES]) -> Held
-    ensures { result ≡ carried_in untils.now }
-{
-    Held {
-        element: CARRIED_ELEMENT,
-        from: 0,
-        until: untils[CARRIED_AT],
-    }
-}
-
-// The value of a writer's instance.
-fn written(writer: Writer, untils: &[u32; MOST_VALUES], instance: u32, schedule: &[u8]) -> Held
-    requires { InReach writer schedule.now instance }
-    ensures { result ≡ held_at writer untils.now schedule.now instance }
-{
-    Held {
-        element: element_at(schedule, writer.first, instance),
-        from: instance * writer.period + writer.start,
-        until: untils[writer.number + instance as usize],
-    }
-}
-
-// No value of the writer's first `records` instances clashes with this one.
-fn apart_from(
-    writer: Writer,
-    untils: &[u32; MOST_VALUES],
-    records: u32,
-    held: Held,
-    schedule: &[u8],
-) -> bool
-    requires { (i : ℕ) → i < records → InReach writer schedule.now i }
-    ensures { result ≡ apart_from (held_at writer untils.now schedule.now) held records }
-{
-    let mut i: u32 = 0;
-    while i < records {
-        if clashes(written(writer, untils, i, schedule), held) {
-            return false;
+impl<'a> Untils<'a> {
+    fn carried_value(&self) -> Held
+        ensures { result ≡ carried_in self.now.ticks }
+    {
+        Held {
+            element: CARRIED_ELEMENT,
+            from: 0,
+            until: self.ticks[CARRIED_AT],
         }
-        i += 1;
     }
-    true
-}
 
-// No value of an earlier WI clashes with this one.
-fn apart_from_earlier(
-    view: View,
-    grid: &[[u8; MOST_SIGNALS]; MOST_TASKS],
-    untils: &[u32; MOST_VALUES],
-    task: usize,
-    instance: u32,
-    held: Held,
-    schedule: &[u8],
-) -> bool
-    requires { Seen view grid.now schedule.now × Kept view grid.now untils.now × Has view grid.now Side.Writers task instance }
-    ensures { result ≡ apart_from_earlier (view_table view grid.now) grid.now (view_schedule view grid.now schedule.now) view.signal held task instance }
-{
-    let mut k: usize = 0;
-    while k < task {
-        let records = records_of(view, grid, Side::Writers, k);
-        if !apart_from(writer_of(view, k), untils, records, held, schedule) {
-            return false;
+    // The value of a writer's instance.
+    fn written(&self, writer: Writer, instance: u32) -> Held
+        requires { InReach writer self.now.view.schedule.now instance }
+        ensures { result ≡ held_at writer self.now.ticks self.now.view.schedule.now instance }
+    {
+        Held {
+            element: element_at(self.view.schedule, writer.first, instance),
+            from: instance * writer.period + writer.start,
+            until: self.ticks[writer.number + instance as usize],
         }
-        k += 1;
     }
-    apart_from(writer_of(view, task), untils, instance, held, schedule)
-}
 
-pub fn shares(
-    view: View,
-    grid: &[[u8; MOST_SIGNALS]; MOST_TASKS],
-    untils: &[u32; MOST_VALUES],
-    task: usize,
-    instance: u32,
-    schedule: &[u8],
-) -> bool
-    requires { Seen view grid.now schedule.now × Kept view grid.now untils.now × Has view grid.now Side.Writers task instance }
-    ensures { result ≡ sharing (view_table view grid.now) (view_schedule view grid.now schedule.now) (wi view.signal task instance) }
-{
-    let held = written(writer_of(view, task), untils, instance, schedule);
-    if clashes(carried_value(untils), held) {
-        return true;
+    // No value of the writer's first `records` instances clashes with this one.
+    fn apart_from(&self, writer: Writer, records: u32, held: Held) -> bool
+        requires { (i : ℕ) → i < records → InReach writer self.now.view.schedule.now i }
+        ensures { result ≡ apart_from (held_at writer self.now.ticks self.now.view.schedule.now) held records }
+    {
+        (0..records).all(|instance| !clashes(self.written(writer, instance), held))
     }
-    !apart_from_earlier(view, grid, untils, task, instance, held, schedule)
+
+    // No value that the task writes clashes with this one.
+    fn apart_from_task(&self, task: usize, held: Held) -> bool
+        requires { task < self.now.view.accepted.now.tasks.count }
+        ensures { result ≡ apart_from_task (view_table self.now.view) self.now.view.accepted.now.grid (view_schedule self.now.view) self.now.view.signal held task }
+    {
+        let records = self.view.records(Side::Writers, task);
+        self.apart_from(self.view.writer(task), records, held)
+    }
+
+    // No value of an earlier WI clashes with this one.
+    fn apart_from_earlier(&self, task: usize, instance: u32, held: Held) -> bool
+        requires { Has self.now.view Side.Writers task instance }
+        ensures { result ≡ apart_from_earlier (view_table self.now.view) self.now.view.accepted.now.grid (view_schedule self.now.view) self.now.view.signal held task instance }
+    {
+        (0..task).all(|earlier| self.apart_from_task(earlier, held))
+            && self.apart_from(self.view.writer(task), instance, held)
+    }
+
+    pub fn shares(&self, task: usize, instance: u32) -> bool
+        requires { Has self.now.view Side.Writers task instance }
+        ensures { result ≡ sharing (view_table self.now.view) (view_schedule self.now.view) (wi self.now.view.signal task instance) }
+    {
+        let held = self.written(self.view.writer(task), instance);
+        clashes(self.carried_value(), held) || !self.apart_from_earlier(task, instance, held)
+    }
 }

@@ -1,14 +1,13 @@
 // Until when each value of a signal is live, worked out once and kept: by the number of its WI, and after them all the carried one.
-ghost use Rattle.std.specs.Prelude.{◌≡◌, List, ℕ, suc, ◌≤◌, ◌<◌, length, get_or};
+ghost use Rattle.std.specs.Prelude.{◌≡◌, suc, ◌≤◌, ◌<◌, get_or};
 ghost use Rattle.rules.specs.Values as values;
-ghost use Rattle.rules.specs.Table.{most_tasks, most_values};
+ghost use Rattle.rules.specs.Table.{most_tasks, longest};
 ghost use Rattle.form.specs.declared.sides.Side.{Side};
-ghost use Rattle.faults.specs.Faults.{view_table, Seen, Has, writer_of, KeptTo, Kept, KeptFor};
+ghost use Rattle.faults.specs.Faults.{view_table, Has, writer_of, ends_of, KeptTo, Kept};
 
-use crate::View;
-use crate::search::records_of;
+use crate::view::View;
 use form::Side;
-use rules::{MOST_INSTANCES, MOST_SIGNALS, MOST_TASKS, MOST_VALUES, USE_BYTES};
+use rules::{MOST_INSTANCES, MOST_VALUES, USE_BYTES};
 use signals::until;
 
 // A signal has at most as many WI as all tasks have instances; the carried value stands after them.
@@ -23,80 +22,77 @@ pub struct Writer {
     pub start: u32,
 }
 
-pub fn writer_of(view: View, task: usize) -> Writer
-    requires { (task < most_tasks) × (get_or view.places.writers 0 0 ≤ get_or view.places.writers task 0) }
-    ensures { result ≡ writer_of view task }
-{
-    let tasks = view.tasks;
-    let writer = tasks.list[task];
-    let places = view.places;
-    let first = places.writers[task];
-    Writer {
-        first: first,
-        number: (first - places.writers[0]) / USE_BYTES,
-        period: writer.period,
-        start: writer.start,
+// What is at hand for a signal, and the ends of the lives of its values.
+#[derive(Clone, Copy)]
+pub struct Untils<'a> {
+    pub view: View<'a>,
+    pub ticks: [u32; MOST_VALUES],
+    pub ghost kept: { Kept view ticks },
+}
+
+impl<'a> Untils<'a> {
+    // The carried value's, and those of all tasks.
+    pub fn new(view: &View<'a>) -> Untils<'a>
+        ensures { result.view ≡ view.now }
+    {
+        let mut ticks = [0; MOST_VALUES];
+        ticks[CARRIED_AT] = view.live_until(0);
+        for task in 0..view.accepted.tasks.count {
+            view.keep_task(task, &mut ticks);
+        }
+        Untils { view: *view, ticks }
     }
 }
 
-// Until when the value of a writer's instance is live.
-fn life_end(view: View, grid: &[[u8; MOST_SIGNALS]; MOST_TASKS], task: usize, instance: u32) -> u32
-    requires { ((bytes : List ℕ) × Seen view grid.now bytes) × Has view grid.now Side.Writers task instance }
-    ensures { result ≡ values.until (view_table view grid.now) (values.by view.signal task instance) }
-{
-    let tasks = view.tasks;
-    let writer = tasks.list[task];
-    let published = instance * writer.period + writer.end;
-    until(tasks, grid, view.signal, view.hyper, published)
-}
-
-// The values of one task, after those of the tasks before it.
-fn keep_task(
-    view: View,
-    grid: &[[u8; MOST_SIGNALS]; MOST_TASKS],
-    task: usize,
-    untils: &mut [u32; MOST_VALUES],
-)
-    requires { ((bytes : List ℕ) × Seen view grid.now bytes) × (task < view.tasks.count) × KeptTo view grid.now task untils.old }
-    ensures { KeptTo view grid.now (suc task) untils.new }
-{
-    let first = writer_of(view, task).number;
-    let records = records_of(view, grid, Side::Writers, task);
-    let mut i: u32 = 0;
-    while i < records {
-        untils[first + i as usize] = life_end(view, grid, task, i);
-        i += 1;
+impl<'a> View<'a> {
+    pub fn writer(&self, task: usize) -> Writer
+        requires { (task < most_tasks) × (get_or self.now.places.writers 0 0 ≤ get_or self.now.places.writers task 0) }
+        ensures { result ≡ writer_of self.now task }
+    {
+        let writer = self.accepted.tasks.list[task];
+        let first = self.places.writers[task];
+        Writer {
+            first,
+            number: (first - self.places.writers[0]) / USE_BYTES,
+            period: writer.period,
+            start: writer.start,
+        }
     }
-}
 
-// The carried value, and those of all tasks.
-fn keep_all(view: View, grid: &[[u8; MOST_SIGNALS]; MOST_TASKS], untils: &mut [u32; MOST_VALUES])
-    requires { ((bytes : List ℕ) × Seen view grid.now bytes) × (length untils.old ≡ most_values) }
-    ensures { Kept view grid.now untils.new }
-{
-    let tasks = view.tasks;
-    untils[CARRIED_AT] = until(tasks, grid, view.signal, view.hyper, 0);
-    let mut k: usize = 0;
-    while k < tasks.count {
-        keep_task(view, grid, k, untils);
-        k += 1;
+    // Until when the value that was published at the tick, 0 for the carried one, is live.
+    fn live_until(&self, published: u32) -> u32
+        requires { published ≤ longest }
+        ensures { result ≡ ends_of self.now published }
+    {
+        let accepted = self.accepted;
+        until(
+            accepted.tasks,
+            &accepted.grid,
+            self.signal,
+            accepted.hyper,
+            published,
+        )
     }
-}
 
-// What a search on this side needs of them: 21 asks for none.
-pub fn keep_for(
-    view: View,
-    grid: &[[u8; MOST_SIGNALS]; MOST_TASKS],
-    side: Side,
-    untils: &mut [u32; MOST_VALUES],
-)
-    requires { ((bytes : List ℕ) × Seen view grid.now bytes) × (length untils.old ≡ most_values) }
-    ensures { KeptFor side view grid.now untils.new }
-{
-    match side {
-        Side::Readers => {}
-        Side::Writers => {
-            keep_all(view, grid, untils);
+    // Until when the value of a writer's instance is live.
+    fn life_end(&self, task: usize, instance: u32) -> u32
+        requires { Has self.now Side.Writers task instance }
+        ensures { result ≡ values.until (view_table self.now) (values.by self.now.signal task instance) }
+    {
+        let writer = self.accepted.tasks.list[task];
+        let published = instance * writer.period + writer.end;
+        self.live_until(published)
+    }
+
+    // The values of one task, after those of the tasks before it.
+    fn keep_task(&self, task: usize, ticks: &mut [u32; MOST_VALUES])
+        requires { (task < self.now.accepted.now.tasks.count) × KeptTo self.now task ticks.old }
+        ensures { KeptTo self.now (suc task) ticks.new }
+    {
+        let first = self.writer(task).number;
+        let records = self.records(Side::Writers, task);
+        for instance in 0..records {
+            ticks[first + instance as usize] = self.life_end(task, instance);
         }
     }
 }

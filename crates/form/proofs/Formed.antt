@@ -1,4 +1,5 @@
 -- The walk at a running place says what document 01's tests of records at their computed places say.
+use Rattle.std.specs.Prelude.{Result, Ok, Err}
 use mathlib.Core.Path.{◌≡◌, refl, sym, ap, ap₂, subst, ◌∙◌}
 use mathlib.Core.Bool.{Bool, true, false, not, ◌&&◌}
 use mathlib.Core.List.{List, [], ◌∷◌}
@@ -17,13 +18,12 @@ use Rattle.rules.specs.Bytes.{Part, bf, wi, ri, fixed, parts, size_of, start_of,
 use Rattle.rules.specs.Numbers.{Told, tell, told, all_done, schedule_cut, not_fixed, after_schedule, sum_above}
 use Rattle.rules.specs.Answers.{stands_at, records_say, end_says}
 use Rattle.rules.specs.Reading.{Grid, task_of, table_of}
-use Rattle.rules.specs.declared.Answer.{Answer}
+use Rattle.rules.specs.declared.Refusal.{Refusal}
 use Rattle.rules.specs.declared.Tasks.{Tasks}
 use Rattle.rules.specs.declared.Signals.{Signals}
 use Rattle.theory.proofs.Tests.{split}
 use Rattle.theory.proofs.Laid.{Laid, laid}
 use Rattle.form.specs.declared.forms.Place.{Place}
-use Rattle.form.specs.declared.forms.Walk.{Walk}
 use Rattle.form.specs.Records.{Instances, parts_in}
 use Rattle.form.specs.Form.{form_says, walked, bf_stands, instance_stands, use_stands, signal_step, use_step, step, end_step, end_of}
 use Rattle.form.proofs.Walks.{walked_stays}
@@ -81,16 +81,16 @@ module _ (bytes : List ℕ) where
 
 -- ---- the answer of a walk, where `more` judges what comes after it
 
-abbrev pub closed : (ℕ → ℕ → Told) → Walk → Told
-closed more (Walk.Next p) = more p.at p.sum
-closed more (Walk.Wrong a) = told a
+abbrev pub closed : (ℕ → ℕ → Told) → Result Place Refusal → Told
+closed more (Ok p) = more p.at p.sum
+closed more (Err r) = told (Err r)
 
 module _ (bytes : List ℕ) (more : ℕ → ℕ → Told) where
   -- a record that is wrong gives the answer
-  turned : (xs : List Part) (b : Bool) (a : Answer) (w : Walk) → closed more (walked (step bytes) xs (when b (Walk.Wrong a) w)) ≡ when b (told a) (closed more (walked (step bytes) xs w))
+  turned : (xs : List Part) (b : Bool) (r : Refusal) (w : Result Place Refusal) → closed more (walked (step bytes) xs (when b (Err r) w)) ≡ when b (told (Err r)) (closed more (walked (step bytes) xs w))
   unfolding when
-  turned xs true a w = ap (closed more) (walked_stays (step bytes) (Walk.Wrong a) (λ x. refl) xs)
-  turned xs false a w = refl
+  turned xs true r w = ap (closed more) (walked_stays (step bytes) (Err r) (λ x. refl) xs)
+  turned xs false r w = refl
 
   -- one signal's record
   both_rungs : (b : ℕ) (t r : Told) → when (not (leb 1 b && leb b 32)) t r ≡ when (ltb b 1) t (when (ltb 32 b) t r)
@@ -106,7 +106,7 @@ module _ (bytes : List ℕ) (more : ℕ → ℕ → Told) where
   rungs p n stands wrong number rest = when (ltb (length bytes) (p + n)) (tell schedule_cut p) (when (not stands) (tell not_fixed p) (when wrong (tell number p) rest))
 
   signal_turn : (xs : List Part) (s : ℕ) (place : Place) (rest : Told)
-      → rest ≡ closed more (walked (step bytes) xs (Walk.Next (record { at = place.at + 4; count = byte_at bytes (place.at + 3); sum = place.sum + byte_at bytes (place.at + 3) })))
+      → rest ≡ closed more (walked (step bytes) xs (Ok (record { at = place.at + 4; count = byte_at bytes (place.at + 3); sum = place.sum + byte_at bytes (place.at + 3) })))
       → rungs place.at 4 (bf_stands bytes place.at s) (not (leb 1 (byte_at bytes (place.at + 3)) && leb (byte_at bytes (place.at + 3)) 32)) 17 rest
       ≡ closed more (walked (step bytes) xs (signal_step bytes s place))
   unfolding signal_step holds_at
@@ -122,7 +122,7 @@ module _ (bytes : List ℕ) (more : ℕ → ℕ → Told) where
 
   -- one instance's record
   use_turn : (xs : List Part) (mark : List ℕ) (s k i : ℕ) (place : Place) (rest : Told)
-      → rest ≡ closed more (walked (step bytes) xs (Walk.Next (record { at = place.at + 7; count = place.count; sum = place.sum })))
+      → rest ≡ closed more (walked (step bytes) xs (Ok (record { at = place.at + 7; count = place.count; sum = place.sum })))
       → rungs place.at 7 (use_stands bytes place.at mark s k i) (leb place.count (byte_at bytes (place.at + 6))) 18 rest
       ≡ closed more (walked (step bytes) xs (use_step bytes mark s k i place))
   unfolding use_step holds_at
@@ -154,7 +154,7 @@ module _ (tab : Table) (bytes : List ℕ) (more : ℕ → ℕ → Told) where
   base_next n s b e h = ap (λ x. base E n + x) (ap E.count (sym e) ∙ h)
 
   records_walked : (xs : List Part) (p q n m c : ℕ) → Laid tab p xs q → Within n xs m → ((s : ℕ) → suc s ≡ n → c ≡ E.count s)
-      → records_say tab bytes xs (more q (base E m)) ≡ closed more (walked (step bytes) xs (Walk.Next (record { at = p; count = c; sum = base E n })))
+      → records_say tab bytes xs (more q (base E m)) ≡ closed more (walked (step bytes) xs (Ok (record { at = p; count = c; sum = base E n })))
   unfolding records_say walked
   records_walked [] p q n m c a w h = ap₂ more (sym a) (ap (base E) (sym w))
   records_walked (bf s ∷ xs) p q n m c a w h =
@@ -162,7 +162,7 @@ module _ (tab : Table) (bytes : List ℕ) (more : ℕ → ℕ → Told) where
       rw (a.0, bf_stands_lem bytes p s, b)
       (signal_turn bytes more xs s (record { at = p; count = c; sum = base E n }) _
       (records_walked xs (p + 4) q (suc n) m (byte_at bytes (p + 3)) a.1 w.1 (λ t e. sym b ∙ ap E.count (w.0 ∙ sym (suc_inj e)))
-      ∙ ap (λ z. closed more (walked (step bytes) xs (Walk.Next (record { at = p + 4; count = byte_at bytes (p + 3); sum = z })))) (base_next n s (byte_at bytes (p + 3)) w.0 b)))
+      ∙ ap (λ z. closed more (walked (step bytes) xs (Ok (record { at = p + 4; count = byte_at bytes (p + 3); sum = z })))) (base_next n s (byte_at bytes (p + 3)) w.0 b)))
   records_walked (wi s k i ∷ xs) p q n m c a w h =
       rw (writer_wrong s k i p c a.0 (h s w.0), a.0, use_stands_lem bytes p 87 73 s k i)
       (use_turn bytes more xs WI s k i (record { at = p; count = c; sum = base E n }) _ (records_walked xs (p + 7) q n m c a.1 w.1 h))
@@ -172,7 +172,7 @@ module _ (tab : Table) (bytes : List ℕ) (more : ℕ → ℕ → Told) where
 
 -- ---- the end
 
-told_when : (b : Bool) (a r : Answer) → told (when b a r) ≡ when b (told a) (told r)
+told_when : (b : Bool) (a r : Result ℕ Refusal) → told (when b a r) ≡ when b (told a) (told r)
 unfolding when
 told_when true a r = refl
 told_when false a r = refl
@@ -205,10 +205,10 @@ end_walked tab bytes place e =
 
 -- the first broken rule, 15 to 20, is what the walk and the end of it give
 pub form_walked : (tab : Table) (bytes : List ℕ) → Within 0 (parts tab) tab.signals
-    → told (end_of bytes (walked (step bytes) (parts tab) (Walk.Next (record { at = 0; count = 0; sum = 0 })))) ≡ form_says tab bytes
+    → told (end_of bytes (walked (step bytes) (parts tab) (Ok (record { at = 0; count = 0; sum = 0 })))) ≡ form_says tab bytes
 unfolding form_says base total end_step
 form_walked tab bytes w =
-    sym (closing (walked (step bytes) (parts tab) (Walk.Next (record { at = 0; count = 0; sum = 0 })))) ∙ sym (records_walked tab bytes more (parts tab) 0 (total (size_of tab) tab.signals) 0 tab.signals 0 (laid tab) w (λ s e. absurd (omega arith)))
+    sym (closing (walked (step bytes) (parts tab) (Ok (record { at = 0; count = 0; sum = 0 })))) ∙ sym (records_walked tab bytes more (parts tab) 0 (total (size_of tab) tab.signals) 0 tab.signals 0 (laid tab) w (λ s e. absurd (omega arith)))
     ∙ ap (records_say tab bytes (parts tab)) (sym (end_walked tab bytes (ended (total (size_of tab) tab.signals) (base (schedule_in tab bytes) tab.signals)) refl))
   where
     ended : ℕ → ℕ → Place
@@ -217,15 +217,15 @@ form_walked tab bytes w =
     more : ℕ → ℕ → Told
     more p n = told (end_step bytes (ended p n))
 
-    closing : (v : Walk) → closed more v ≡ told (end_of bytes v)
-    closing (Walk.Next place) = refl
-    closing (Walk.Wrong a) = refl
+    closing : (v : Result Place Refusal) → closed more v ≡ told (end_of bytes v)
+    closing (Ok place) = refl
+    closing (Err r) = refl
 
 -- the same from what the code has of the table
 pub form_is : (tasks : Tasks) (S : Signals) (grid : Grid) (h : ℕ) (instances : List ℕ) → h ≡ lcm_all (λ k. (task_of tasks k).period) tasks.count → Instances tasks h instances → (n : ℕ) → S.count ≡ n
-    → (bytes : List ℕ) {w : Walk} {r : Answer} → w ≡ walked (step bytes) (parts_in grid instances tasks.count n) (Walk.Next (record { at = 0; count = 0; sum = 0 })) → r ≡ end_of bytes w
+    → (bytes : List ℕ) {g : Grid} {t : ℕ} {w : Result Place Refusal} {r : Result ℕ Refusal} → g ≡ grid → t ≡ tasks.count → w ≡ walked (step bytes) (parts_in g instances t n) (Ok (record { at = 0; count = 0; sum = 0 })) → r ≡ end_of bytes w
     → told r ≡ form_says (table_of tasks S grid) bytes
-form_is tasks S grid h instances e I n q bytes d f =
-    let same = parts_is tasks S grid h instances e I n q in
-    ap told (f ∙ ap (end_of bytes) (d ∙ ap (λ xs. walked (step bytes) xs (Walk.Next (record { at = 0; count = 0; sum = 0 }))) same))
-    ∙ form_walked (table_of tasks S grid) bytes (subst (λ xs. Within 0 xs S.count) same (subst (λ m. Within 0 (parts_in grid instances tasks.count n) m) (sym q) (parts_within grid instances tasks.count n)))
+form_is tasks S grid h instances e I n q bytes {g} {t} u v d f =
+    let same = ap₂ (λ g t. parts_in g instances t n) u v ∙ parts_is tasks S grid h instances e I n q in
+    ap told (f ∙ ap (end_of bytes) (d ∙ ap (λ xs. walked (step bytes) xs (Ok (record { at = 0; count = 0; sum = 0 }))) same))
+    ∙ form_walked (table_of tasks S grid) bytes (subst (λ xs. Within 0 xs S.count) same (subst (λ m. Within 0 (parts_in g instances t n) m) (sym q) (parts_within g instances t n)))

@@ -1,4 +1,6 @@
 -- The records of a signal stand after its own record and before the next signal's; so the sum of the counts stays small.
+use Rattle.std.specs.Prelude.{Result, Ok, Err}
+use Rattle.rules.specs.declared.Refusal.{Refusal}
 use mathlib.Core.Path.{◌≡◌, refl, subst, sym}
 use mathlib.Core.List.{List, [], ◌∷◌, ◌++◌}
 use Prim.Native.Nat.{ℕ, zero, suc, ◌+◌, ◌*◌, ◌≤◌, zero-le}
@@ -13,7 +15,6 @@ use Rattle.rules.specs.Bytes.{Part, bf, wi, ri}
 use Rattle.rules.specs.Reading.{Grid}
 use Rattle.form.specs.declared.sides.Side.{Side}
 use Rattle.form.specs.declared.forms.Place.{Place}
-use Rattle.form.specs.declared.forms.Walk.{Walk}
 use Rattle.form.specs.Records.{use_of, users_of, side_parts, sides_parts, signal_parts, parts_in}
 use Rattle.form.specs.Form.{walked, step, signal_step, use_step}
 
@@ -54,9 +55,9 @@ module _ (grid : Grid) (instances : List ℕ) (tasks : ℕ) where
 
 -- ---- the sum so far
 
-abbrev sum_of : Walk → ℕ
-sum_of (Walk.Next p) = p.sum
-sum_of (Walk.Wrong a) = 0
+abbrev sum_of : Result Place Refusal → ℕ
+sum_of (Ok p) = p.sum
+sum_of (Err r) = 0
 
 module _ (bytes : List ℕ) where
   use_sum : (mark : List ℕ) (s k i : ℕ) (p : Place) → sum_of (use_step bytes mark s k i p) ≤ p.sum
@@ -76,18 +77,18 @@ module _ (bytes : List ℕ) where
       (λ c. over (λ w. sum_of w ≤ p.sum + most_elements) _ _ _ zero-le
       (λ d. omega (arith, ltb-false most_elements (byte_at bytes (p.at + 3)) d)))))
 
-  sums : (xs : List Part) (n m : ℕ) (w : Walk) → Within n xs m → sum_of w ≤ most_elements * n → sum_of (walked (step bytes) xs w) ≤ most_elements * m
+  sums : (xs : List Part) (n m : ℕ) (w : Result Place Refusal) → Within n xs m → sum_of w ≤ most_elements * n → sum_of (walked (step bytes) xs w) ≤ most_elements * m
   unfolding walked
   sums [] n m w a h = omega arith
-  sums (bf s ∷ xs) n m (Walk.Wrong a) b h = sums xs (suc n) m (Walk.Wrong a) b.1 zero-le
-  sums (wi s k i ∷ xs) n m (Walk.Wrong a) b h = sums xs n m (Walk.Wrong a) b.1 zero-le
-  sums (ri s k i ∷ xs) n m (Walk.Wrong a) b h = sums xs n m (Walk.Wrong a) b.1 zero-le
-  sums (bf s ∷ xs) n m (Walk.Next p) a h = sums xs (suc n) m (signal_step bytes s p) a.1 (omega (arith, signal_sum s p))
-  sums (wi s k i ∷ xs) n m (Walk.Next p) a h = sums xs n m (use_step bytes WI s k i p) a.1 (omega (arith, use_sum WI s k i p))
-  sums (ri s k i ∷ xs) n m (Walk.Next p) a h = sums xs n m (use_step bytes RI s k i p) a.1 (omega (arith, use_sum RI s k i p))
+  sums (bf s ∷ xs) n m (Err r) b h = sums xs (suc n) m (Err r) b.1 zero-le
+  sums (wi s k i ∷ xs) n m (Err r) b h = sums xs n m (Err r) b.1 zero-le
+  sums (ri s k i ∷ xs) n m (Err r) b h = sums xs n m (Err r) b.1 zero-le
+  sums (bf s ∷ xs) n m (Ok p) a h = sums xs (suc n) m (signal_step bytes s p) a.1 (omega (arith, signal_sum s p))
+  sums (wi s k i ∷ xs) n m (Ok p) a h = sums xs n m (use_step bytes WI s k i p) a.1 (omega (arith, use_sum WI s k i p))
+  sums (ri s k i ∷ xs) n m (Ok p) a h = sums xs n m (use_step bytes RI s k i p) a.1 (omega (arith, use_sum RI s k i p))
 
   -- the sum after n signals
-  pub sum_small : (grid : Grid) (instances : List ℕ) (tasks n : ℕ) {p : Place} → Walk.Next p ≡ walked (step bytes) (parts_in grid instances tasks n) (Walk.Next (record { at = 0; count = 0; sum = 0 }))
+  pub sum_small : (grid : Grid) (instances : List ℕ) (tasks n : ℕ) {p : Place} → Ok p ≡ walked (step bytes) (parts_in grid instances tasks n) (Ok (record { at = 0; count = 0; sum = 0 }))
       → p.sum ≤ most_elements * n
   sum_small grid instances tasks n e =
       subst (λ w. sum_of w ≤ most_elements * n) (sym e) (sums (parts_in grid instances tasks n) 0 n _ (parts_within grid instances tasks n) zero-le)

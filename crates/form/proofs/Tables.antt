@@ -2,23 +2,21 @@
 use mathlib.Core.Path.{◌≡◌, refl, sym, ap, ap₂, ◌∙◌}
 use mathlib.Core.List.{List, ◌∷◌, ◌++◌}
 use Prim.Native.Nat.{ℕ, zero, suc, ◌+◌, ◌*◌, ◌/◌, ◌≤◌, ◌<◌}
-use native.Mathlib.Nat.{div-le_self}
 use native.Mathlib.Omega.{arith}
 use lib.ListN.{get_or}
 use Rattle.rules.specs.Words.{total, gather, times}
 use Rattle.rules.specs.Windows.{Table, lcm_all, hyper}
 use Rattle.rules.specs.Windows as windows
-use Rattle.rules.specs.Table.{longest}
 use Rattle.rules.specs.Bytes.{Part, bf, writers_below, readers_below, parts_of, parts, size_of, schedule_length}
 use Rattle.rules.specs.Reading.{Grid, task_of, table_of}
 use Rattle.rules.specs.declared.Tasks.{Tasks}
 use Rattle.rules.specs.declared.Signals.{Signals}
 use Rattle.form.specs.declared.sides.Side.{Side}
-use Rattle.form.specs.Records.{Instances, Short, permits, users_of, users_below, signal_bytes, instance_parts, side_parts, sides_parts, signal_parts, parts_in}
+use Rattle.form.specs.Records.{Instances, permits, users_of, users_below, signal_bytes, instance_parts, side_parts, sides_parts, signal_parts, parts_in}
 
 -- ---- sums and lists agree where their members do
 
-total_below : (f g : ℕ → ℕ) (n : ℕ) → ((k : ℕ) → k < n → f k ≡ g k) → total f n ≡ total g n
+pub total_below : (f g : ℕ → ℕ) (n : ℕ) → ((k : ℕ) → k < n → f k ≡ g k) → total f n ≡ total g n
 unfolding total
 total_below f g zero h = refl
 total_below f g (suc n) h = ap₂ ◌+◌ (total_below f g n (λ k l. h k (omega arith))) (h n (omega arith))
@@ -27,9 +25,6 @@ gather_below : {A : Type 0} (f g : ℕ → List A) (n : ℕ) → ((k : ℕ) → 
 unfolding gather
 gather_below f g zero h = refl
 gather_below f g (suc n) h = ap₂ ◌++◌ (gather_below f g n (λ k l. h k (omega arith))) (h n (omega arith))
-
-pub instances_short : (tasks : Tasks) (h : ℕ) (instances : List ℕ) → Instances tasks h instances → h ≤ longest → Short tasks.count instances
-instances_short tasks h instances I l k m = omega (arith, I k m, div-le_self h (task_of tasks k).period)
 
 module _ (tasks : Tasks) (S : Signals) (grid : Grid) (h : ℕ) (instances : List ℕ)
     (e : h ≡ lcm_all (λ k. (task_of tasks k).period) tasks.count) (I : Instances tasks h instances) where
@@ -44,17 +39,17 @@ module _ (tasks : Tasks) (S : Signals) (grid : Grid) (h : ℕ) (instances : List
   unfolding users_of
   users_is side s k l = ap (times (permits grid side s k)) (instances_is k l)
 
-  writers_is : (s : ℕ) → users_below grid instances Side.Writers s tasks.count ≡ writers_below tab s tasks.count
+  pub writers_is : (s n : ℕ) → n ≤ tasks.count → users_below grid instances Side.Writers s n ≡ writers_below tab s n
   unfolding users_below writers_below
-  writers_is s = total_below _ _ tasks.count (λ k l. users_is Side.Writers s k l)
+  writers_is s n m = total_below _ _ n (λ k l. users_is Side.Writers s k (omega arith))
 
-  readers_is : (s : ℕ) → users_below grid instances Side.Readers s tasks.count ≡ readers_below tab s tasks.count
+  pub readers_is : (s n : ℕ) → n ≤ tasks.count → users_below grid instances Side.Readers s n ≡ readers_below tab s n
   unfolding users_below readers_below
-  readers_is s = total_below _ _ tasks.count (λ k l. users_is Side.Readers s k l)
+  readers_is s n m = total_below _ _ n (λ k l. users_is Side.Readers s k (omega arith))
 
   bytes_is : (s : ℕ) → signal_bytes grid instances tasks.count s ≡ size_of tab s
   unfolding signal_bytes size_of
-  bytes_is s = ap₂ (λ w r. 4 + 7 * (w + r)) (writers_is s) (readers_is s)
+  bytes_is s = ap₂ (λ w r. 4 + 7 * (w + r)) (writers_is s tasks.count (omega arith)) (readers_is s tasks.count (omega arith))
 
   pub length_is : (n : ℕ) → S.count ≡ n → total (signal_bytes grid instances tasks.count) n + 2 ≡ schedule_length tab
   unfolding schedule_length

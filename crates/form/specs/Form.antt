@@ -1,5 +1,5 @@
 -- The form of a schedule: 15 to 18 record by record at a running place, then 15, 16, 19 at EN, and 20. Assumes nothing.
-use Rattle.std.specs.Prelude.{Bool, false, not, List, [], ◌∷◌, ℕ, ◌+◌, ◌/◌, ◌%◌, ltb, leb, eqb, length}
+use Rattle.std.specs.Prelude.{Bool, false, not, List, [], ◌∷◌, ℕ, ◌+◌, ◌/◌, ◌%◌, ltb, leb, eqb, length, Result, Ok, Err}
 use Rattle.rules.specs.Table.{most_elements, words}
 use Rattle.rules.specs.Words.{when}
 use Rattle.rules.specs.Windows.{Table}
@@ -8,10 +8,9 @@ use Rattle.rules.specs.Fields.{BF, WI, RI, EN, holds_at, byte_at, mark_at}
 use Rattle.rules.specs.Bytes.{Part, bf, wi, ri, parts, schedule_in}
 use Rattle.rules.specs.Numbers.{Told, tell, all_done, sum_above}
 use Rattle.rules.specs.Answers.{records_say, end_says}
-use Rattle.rules.specs.declared.Answer.{Answer}
+use Rattle.rules.specs.declared.Refusal.{Refusal}
 use Rattle.form.specs.Records.{bf_bytes, use_bytes, en_bytes}
 use Rattle.form.specs.declared.forms.Place.{Place}
-use Rattle.form.specs.declared.forms.Walk.{Walk}
 
 -- 15 to 20: the check of a schedule before its elements are compared
 unfoldable pub form_says : Table → List ℕ → Told
@@ -59,40 +58,40 @@ use_stands bytes p mark s k i =
     false
 
 -- a signal's record: its count holds for the records after it
-unfoldable pub signal_step : List ℕ → ℕ → Place → Walk
+unfoldable pub signal_step : List ℕ → ℕ → Place → Result Place Refusal
 signal_step bytes s place =
-    when (not (holds_at bytes place.at bf_bytes)) (Walk.Wrong (Answer.ScheduleCut place.at))
-    (when (not (bf_stands bytes place.at s)) (Walk.Wrong (Answer.NotFixed place.at))
-    (when (ltb (byte_at bytes (place.at + 3)) 1) (Walk.Wrong (Answer.BadCount place.at))
-    (when (ltb most_elements (byte_at bytes (place.at + 3))) (Walk.Wrong (Answer.BadCount place.at))
-    (Walk.Next (record { at = place.at + bf_bytes; count = byte_at bytes (place.at + 3); sum = place.sum + byte_at bytes (place.at + 3) })))))
+    when (not (holds_at bytes place.at bf_bytes)) (Err (Refusal.ScheduleCut place.at))
+    (when (not (bf_stands bytes place.at s)) (Err (Refusal.NotFixed place.at))
+    (when (ltb (byte_at bytes (place.at + 3)) 1) (Err (Refusal.BadCount place.at))
+    (when (ltb most_elements (byte_at bytes (place.at + 3))) (Err (Refusal.BadCount place.at))
+    (Ok (record { at = place.at + bf_bytes; count = byte_at bytes (place.at + 3); sum = place.sum + byte_at bytes (place.at + 3) })))))
 
 -- an instance's record
-unfoldable pub use_step : List ℕ → List ℕ → ℕ → ℕ → ℕ → Place → Walk
+unfoldable pub use_step : List ℕ → List ℕ → ℕ → ℕ → ℕ → Place → Result Place Refusal
 use_step bytes mark s k i place =
-    when (not (holds_at bytes place.at use_bytes)) (Walk.Wrong (Answer.ScheduleCut place.at))
-    (when (not (use_stands bytes place.at mark s k i)) (Walk.Wrong (Answer.NotFixed place.at))
-    (when (leb place.count (byte_at bytes (place.at + 6))) (Walk.Wrong (Answer.BadElement place.at))
-    (Walk.Next (record { at = place.at + use_bytes; count = place.count; sum = place.sum }))))
+    when (not (holds_at bytes place.at use_bytes)) (Err (Refusal.ScheduleCut place.at))
+    (when (not (use_stands bytes place.at mark s k i)) (Err (Refusal.NotFixed place.at))
+    (when (leb place.count (byte_at bytes (place.at + 6))) (Err (Refusal.BadElement place.at))
+    (Ok (record { at = place.at + use_bytes; count = place.count; sum = place.sum }))))
 
 -- any record; after one that is wrong nothing is compared
-abbrev pub step : List ℕ → Part → Walk → Walk
-step bytes x (Walk.Wrong a) = Walk.Wrong a
-step bytes (bf s) (Walk.Next place) = signal_step bytes s place
-step bytes (wi s k i) (Walk.Next place) = use_step bytes WI s k i place
-step bytes (ri s k i) (Walk.Next place) = use_step bytes RI s k i place
+abbrev pub step : List ℕ → Part → Result Place Refusal → Result Place Refusal
+step bytes x (Err r) = Err r
+step bytes (bf s) (Ok place) = signal_step bytes s place
+step bytes (wi s k i) (Ok place) = use_step bytes WI s k i place
+step bytes (ri s k i) (Ok place) = use_step bytes RI s k i place
 
 -- ---- the end
 
 -- EN and nothing after it, then the sum of the counts
-unfoldable pub end_step : List ℕ → Place → Answer
+unfoldable pub end_step : List ℕ → Place → Result ℕ Refusal
 end_step bytes place =
-    when (not (holds_at bytes place.at en_bytes)) (Answer.ScheduleCut place.at)
-    (when (not (mark_at bytes place.at EN)) (Answer.NotFixed place.at)
-    (when (ltb (place.at + en_bytes) (length bytes)) (Answer.AfterSchedule (place.at + en_bytes))
-    (when (ltb words place.sum) Answer.SumAbove
-    (Answer.Done 0))))
+    when (not (holds_at bytes place.at en_bytes)) (Err (Refusal.ScheduleCut place.at))
+    (when (not (mark_at bytes place.at EN)) (Err (Refusal.NotFixed place.at))
+    (when (ltb (place.at + en_bytes) (length bytes)) (Err (Refusal.AfterSchedule (place.at + en_bytes)))
+    (when (ltb words place.sum) (Err Refusal.SumAbove)
+    (Ok 0))))
 
-abbrev pub end_of : List ℕ → Walk → Answer
-end_of bytes (Walk.Wrong a) = a
-end_of bytes (Walk.Next place) = end_step bytes place
+abbrev pub end_of : List ℕ → Result Place Refusal → Result ℕ Refusal
+end_of bytes (Err r) = Err r
+end_of bytes (Ok place) = end_step bytes place

@@ -64,6 +64,10 @@ module _ (grid : Grid) (instances : List ℕ) where
   unfoldable pub users_below : Side → ℕ → ℕ → ℕ
   users_below side s n = total (users_of side s) n
 
+  -- where the records of the tasks below n begin on this side, if each takes so much and the first begins here
+  abbrev pub Starts : (step : ℕ) → Side → (s first n : ℕ) → List ℕ → Type 0
+  Starts step side s first n starts = (k : ℕ) → k < n → get_or starts k 0 ≡ first + step * users_below side s k
+
   -- the bytes of the records of signal s
   unfoldable pub signal_bytes : ℕ → ℕ → ℕ
   signal_bytes tasks s = bf_bytes + use_bytes * (users_below Side.Writers s tasks + users_below Side.Readers s tasks)

@@ -4,7 +4,9 @@
 mod forms;
 mod lengths;
 mod sides;
+mod users;
 
 pub use forms::form;
 pub use lengths::length;
-pub use sides::{Side, instances_of, mark_of, permitted, users};
+pub use sides::{Side, Use, mark_of, permitted};
+pub use users::Users;

@@ -2,7 +2,7 @@
 ghost use Rattle.std.specs.Prelude.{◌≡◌, ◌<◌, ◌≤◌};
 ghost use Rattle.rules.specs.Table.{most_tasks, most_signals};
 ghost use Rattle.windows.specs.Windowed.{AllWindowed};
-ghost use Rattle.form.specs.Records.{mark_of, permits, users_of, Instances};
+ghost use Rattle.form.specs.Records.{mark_of, permits, Instances};
 
 use rules::{MOST_SIGNALS, MOST_TASKS, RI, Tasks, WI};
 
@@ -10,6 +10,15 @@ use rules::{MOST_SIGNALS, MOST_TASKS, RI, Tasks, WI};
 pub enum Side {
     Writers,
     Readers,
+}
+
+// One of those records: its mark, and the signal, the task and the instance that it is of.
+#[derive(Clone, Copy)]
+pub struct Use {
+    pub mark: [u8; 2],
+    pub signal: usize,
+    pub task: usize,
+    pub instance: usize,
 }
 
 pub fn mark_of(side: Side) -> [u8; 2]
@@ -37,34 +46,14 @@ pub fn permitted(
     }
 }
 
-// How many records the task has for the signal: one for each of its instances, or none.
-pub fn users(
-    grid: &[[u8; MOST_SIGNALS]; MOST_TASKS],
-    instances: &[usize; MOST_TASKS],
-    task: usize,
-    signal: usize,
-    side: Side,
-) -> usize
-    requires { (task < most_tasks) × (signal < most_signals) }
-    ensures { result ≡ users_of grid.now instances.now side signal task }
-{
-    if permitted(grid, task, signal, side) {
-        instances[task]
-    } else {
-        0
-    }
-}
-
 // The instances of each task in a hyper-period, divided once here so that no walk over records divides.
 pub fn instances_of(tasks: Tasks, hyper: u32) -> [usize; MOST_TASKS]
     requires { (tasks.count ≤ most_tasks) × AllWindowed tasks }
     ensures { Instances tasks hyper result }
 {
     let mut instances = [0usize; MOST_TASKS];
-    let mut k: usize = 0;
-    while k < tasks.count {
+    for k in 0..tasks.count {
         instances[k] = (hyper / tasks.list[k].period) as usize;
-        k += 1;
     }
     instances
 }

@@ -12,6 +12,7 @@ use text::{LONGEST_LISTING, LONGEST_SCHEDULE, put_listing};
 const MOST_READ: usize = 4096;
 
 // Reads until the buffer is full or the input ends, and gives back how many bytes it put there.
+// A loop: `read_exact` refuses a shorter input, and `read_to_end` wants a heap.
 fn read_full(input: &mut impl Read, buffer: &mut [u8]) -> io::Result<usize>
     ensures { IfOk result (λ n. n ≤ length buffer.new) }
 {

@@ -3,10 +3,10 @@ use mathlib.Core.Bool.{Bool, true, false}
 use mathlib.Core.List.{List, [], ◌∷◌, ◌++◌, map, append-nil}
 use mathlib.Core.Logic.{inl, inr}
 use mathlib.Core.Path.{◌≡◌, refl, sym, ap, ap₂, subst, ◌∙◌}
-use Prim.Native.Nat.{ℕ, zero, suc, ◌+◌, ◌*◌, ◌/◌, ◌≤◌, ◌<◌}
+use Prim.Native.Nat.{ℕ, zero, suc, ◌+◌, ◌/◌, ◌≤◌, ◌<◌}
 use native.Mathlib.Numerals.{add-one}
 use native.Mathlib.Omega.{arith}
-use lib.ListN.{length, get_or, set, replicate, length-append, length-map, get_or-append}
+use lib.ListN.{length, get_or, set, take, replicate, length-append, length-map}
 use Rattle.rules.specs.Words.{gather, only}
 use Rattle.rules.specs.Windows as windows
 use Rattle.rules.specs.Windows.{Table, opens, closes, instance}
@@ -22,7 +22,7 @@ use Rattle.theory.proofs.Tests.{both, holds, not_both}
 use Rattle.theory.proofs.Time.{instance_is, closes_le}
 use Rattle.theory.proofs.Lists.{all_at}
 use Rattle.theory.proofs.Swept.{opening_digits, closing_digits}
-use Rattle.theory.proofs.Events.{IsEvent, events_up, events_all, few_events}
+use Rattle.theory.proofs.Events.{IsEvent, events_all}
 use Rattle.theory.proofs.Order.{lives_length}
 use Rattle.theory.proofs.Untils.{plan_fold, count_fold}
 use Rattle.theory.proofs.Seats.{plan_most}
@@ -30,8 +30,9 @@ use Rattle.windows.specs.Windowed.{AllWindowed}
 use Rattle.signals.specs.Forms.{until_of}
 use Rattle.signals.proofs.Standing.{fits_window}
 use Rattle.signals.proofs.Lives.{until_is}
-use Rattle.events.specs.Order.{tasks_table, most_events, ordered}
+use Rattle.events.specs.Order.{tasks_table, ordered}
 use Rattle.events.specs.declared.Events.{Events}
+use Rattle.std.proofs.Math.Seq.{take-append_seam}
 use Rattle.events.proofs.Alone.{fits_alone, hyper_alone, events_alone}
 use Rattle.elements.specs.Steps.{free_in}
 use Rattle.lives.specs.declared.LiveValue.{LiveValue}
@@ -59,6 +60,10 @@ map_gather {B} f g (suc n) = map_append (gather n g) (g n) ∙ ap (λ (l : List 
 map_lines : (ps : List Placed) → map shown ps ≡ map value_of (map line_of ps)
 map_lines [] = refl
 map_lines (p ∷ ps) = ap {B = List LiveValue} (λ l. shown p ∷ l) (map_lines ps)
+
+-- the places in use are the openings and closings
+pub turns_are : (tasks : Tasks) {turns : Events} → turns ≡ ordered (tasks_table tasks) → take turns.count turns.list ≡ events (tasks_table tasks)
+turns_are tasks e = ap (λ (t : Events). take t.count t.list) e ∙ take-append_seam (events (tasks_table tasks)) _
 
 module _ (tasks : Tasks) (S : Signals) (grid : Grid) (h s : ℕ) (A : Asked tasks S grid h s) where
   abbrev tab : Table
@@ -113,27 +118,21 @@ module _ (tasks : Tasks) (S : Signals) (grid : Grid) (h s : ℕ) (A : Asked task
 
   -- ---- the openings and closings in their order
 
-  module _ (E : Events) (q : E ≡ ordered (tasks_table tasks)) where
-    pub counted : E.count ≡ length (events tab)
-    counted = ap (λ (x : Events). x.count) q ∙ ap length (sym (events_alone tasks S grid))
+  same_events : events (tasks_table tasks) ≡ events tab
+  same_events = sym (events_alone tasks S grid)
 
-    pub few : E.count ≤ most_events
-    few = omega (arith, counted, few_events tab F most_tasks (most_tasks + windows.hyper tab * (2 * most_tasks)) (events tab) (events_up tab F) (events_all tab F), F.few_instances)
+  module _ (list : List ℕ) (q : list ≡ events (tasks_table tasks)) where
+    listed : list ≡ events tab
+    listed = q ∙ same_events
 
-    event_at : (n : ℕ) → n < E.count → get_or E.list n 0 ≡ get_or (events tab) n 0
-    event_at n l =
-        ap (λ (x : Events). get_or x.list n 0) q
-        ∙ get_or-append (events (tasks_table tasks)) _ 0 n (omega (arith, ap (λ (x : Events). x.count) q))
-        ∙ ap (λ (xs : List ℕ). get_or xs n 0) (sym (events_alone tasks S grid))
-
-    is_event : (n : ℕ) → n < E.count → IsEvent tab (get_or E.list n 0)
-    is_event n l = subst (IsEvent tab) (sym (event_at n l)) (all_at (IsEvent tab) 0 (events tab) (events_all tab F) n (omega (arith, counted)))
+    is_event : (n : ℕ) → n < length list → IsEvent tab (get_or list n 0)
+    is_event n l = rw listed (all_at (IsEvent tab) 0 (events tab) (events_all tab F) n (omega (arith, ap length listed)))
 
     abbrev pub lives : ℕ → List Life
-    lives n = lives_below tasks grid s h E.list n
+    lives n = lives_below tasks grid s h list n
 
-    pub opens_one : (n : ℕ) → n < E.count → writes_at (writes_in grid s) (get_or E.list n 0) ≡ true → Opening tasks s h (get_or E.list n 0)
-    opens_one n l w = (one_opened (get_or E.list n 0) (is_event n l) w).opening
+    pub opens_one : (n : ℕ) → n < length list → writes_at (writes_in grid s) (get_or list n 0) ≡ true → Opening tasks s h (get_or list n 0)
+    opens_one n l w = (one_opened (get_or list n 0) (is_event n l) w).opening
 
     -- at the end they are those of the signal's values in plan order
     same_lives : (b : Bool) (n : ℕ) → (b ≡ true → life_by tasks grid s h n ≡ life tab (opened_by tab F s n)) → only b (life_by tasks grid s h n) ≡ map (life tab) (only b (opened_by tab F s n))
@@ -143,29 +142,29 @@ module _ (tasks : Tasks) (S : Signals) (grid : Grid) (h s : ℕ) (A : Asked task
     carried_is : carried_by tasks grid s h ≡ life tab (carried s)
     carried_is = ap (λ (u : ℕ). record { value = carried s; from = 0; until = u }) (ap (λ (h : ℕ). until_of tasks (writes_in grid s) (reads_in grid s) h 0) A.hyper ∙ until_is tasks S grid F (carried s) A.signal)
 
-    pub lives_all : lives E.count ≡ lives_of tab s
+    pub lives_all : lives (length list) ≡ lives_of tab s
     unfolding lives_below
     lives_all =
-        ap₂ ◌∷◌ carried_is (gather_same _ (λ i. map (life tab) (opened tab F s (get_or (events tab) i 0))) E.count (λ i l.
-        same_lives (writes_at (writes_in grid s) (get_or E.list i 0)) (get_or E.list i 0) (λ w. (one_opened (get_or E.list i 0) (is_event i l) w).same)
-        ∙ ap (λ (n : ℕ). map (life tab) (opened tab F s n)) (event_at i l))
-        ∙ sym (map_gather (life tab) (λ i. opened tab F s (get_or (events tab) i 0)) E.count)
-        ∙ ap (λ (n : ℕ). map (life tab) (gather n (λ i. opened tab F s (get_or (events tab) i 0)))) counted
+        ap₂ ◌∷◌ carried_is (gather_same _ (λ i. map (life tab) (opened tab F s (get_or (events tab) i 0))) (length list) (λ i l.
+        same_lives (writes_at (writes_in grid s) (get_or list i 0)) (get_or list i 0) (λ w. (one_opened (get_or list i 0) (is_event i l) w).same)
+        ∙ ap (λ (xs : List ℕ). map (life tab) (opened tab F s (get_or xs i 0))) listed)
+        ∙ sym (map_gather (life tab) (λ i. opened tab F s (get_or (events tab) i 0)) (length list))
+        ∙ ap (λ (n : ℕ). map (life tab) (gather n (λ i. opened tab F s (get_or (events tab) i 0)))) (ap length listed)
         ∙ ap (map (life tab)) (opened_all tab F s))
 
     -- no more than there is room for
-    more : (n : ℕ) → n ≤ E.count → (rest : List Life) × (lives_of tab s ≡ lives n ++ rest)
+    more : (n : ℕ) → n ≤ length list → (rest : List Life) × (lives_of tab s ≡ lives n ++ rest)
     unfolding lives_below
     more n l =
-        let (rest, e) = gather_more (λ i. only (writes_at (writes_in grid s) (get_or E.list i 0)) (life_by tasks grid s h (get_or E.list i 0))) n E.count l in
+        let (rest, e) = gather_more (λ i. only (writes_at (writes_in grid s) (get_or list i 0)) (life_by tasks grid s h (get_or list i 0))) n (length list) l in
         (rest, sym lives_all ∙ ap {B = List Life} (λ ls. carried_by tasks grid s h ∷ ls) e)
 
-    few_lives : (n : ℕ) → n ≤ E.count → length (lives n) ≤ most_values
+    few_lives : (n : ℕ) → n ≤ length list → length (lives n) ≤ most_values
     few_lives n l =
         let (rest, e) = more n l in
         omega (arith, ap length e, length-append (lives n) rest, lives_length tab F s A.signal, few_values tab F s A.signal)
 
-    few_held : (n : ℕ) → n ≤ E.count → length (untils [] (lives n)) ≤ most_elements
+    few_held : (n : ℕ) → n ≤ length list → length (untils [] (lives n)) ≤ most_elements
     few_held n l =
         let (rest, e) = more n l in
         omega (arith, untils_grow [] (lives n) rest, ap (λ (ls : List Life). length (untils [] ls)) e, count_fold tab F s A.signal, plan_most tab F s A.signal)
@@ -177,17 +176,17 @@ module _ (tasks : Tasks) (S : Signals) (grid : Grid) (h s : ℕ) (A : Asked task
     unfolding lives_below gather fold untils holding hold first_free
     starts e = rw e (record { number = refl; records = refl; ticks = refl })
 
-    lives_more : (n : ℕ) → writes_at (writes_in grid s) (get_or E.list n 0) ≡ true → lives (n + 1) ≡ lives n ++ life_by tasks grid s h (get_or E.list n 0) ∷ []
+    lives_more : (n : ℕ) → writes_at (writes_in grid s) (get_or list n 0) ≡ true → lives (n + 1) ≡ lives n ++ life_by tasks grid s h (get_or list n 0) ∷ []
     unfolding lives_below gather
     lives_more n w = rw (add-one n, w)
 
-    pub passes_by : (n : ℕ) → writes_at (writes_in grid s) (get_or E.list n 0) ≡ false → lives (n + 1) ≡ lives n
+    pub passes_by : (n : ℕ) → writes_at (writes_in grid s) (get_or list n 0) ≡ false → lives (n + 1) ≡ lives n
     unfolding lives_below gather
-    passes_by n w = rw (add-one n, w) (ap {B = List Life} (λ ls. carried_by tasks grid s h ∷ ls) (append-nil (gather n (λ i. only (writes_at (writes_in grid s) (get_or E.list i 0)) (life_by tasks grid s h (get_or E.list i 0))))))
+    passes_by n w = rw (add-one n, w) (ap {B = List Life} (λ ls. carried_by tasks grid s h ∷ ls) (append-nil (gather n (λ i. only (writes_at (writes_in grid s) (get_or list i 0)) (life_by tasks grid s h (get_or list i 0))))))
 
-    module _ (n : ℕ) (l : n < E.count) (w : writes_at (writes_in grid s) (get_or E.list n 0) ≡ true) (held : List ℕ) (values : List LiveValue) (count : ℕ) (K : Held (lives n) held values count) where
+    module _ (n : ℕ) (l : n < length list) (w : writes_at (writes_in grid s) (get_or list n 0) ≡ true) (held : List ℕ) (values : List LiveValue) (count : ℕ) (K : Held (lives n) held values count) where
       abbrev one : Life
-      one = life_by tasks grid s h (get_or E.list n 0)
+      one = life_by tasks grid s h (get_or list n 0)
 
       pub room : count < most_values
       room = omega (arith, K.number, few_lives (n + 1) (omega arith), ap length (lives_more n w), length-append (lives n) (one ∷ []))
@@ -206,7 +205,7 @@ module _ (tasks : Tasks) (S : Signals) (grid : Grid) (h s : ℕ) (A : Asked task
     list_length : length (live_values tab s) ≡ length (lives_of tab s)
     list_length = ap length (sym shown_all) ∙ length-map (fold [] (lives_of tab s)) shown ∙ length_fold [] (lives_of tab s)
 
-    module _ (n : ℕ) (e : n ≡ E.count) (held : List ℕ) (values : List LiveValue) (count : ℕ) (K : Held (lives n) held values count) where
+    module _ (n : ℕ) (e : n ≡ length list) (held : List ℕ) (values : List LiveValue) (count : ℕ) (K : Held (lives n) held values count) where
       pub all_counted : (count ≡ length (live_values tab s)) × (count ≤ most_values)
       all_counted =
           let z : count ≡ length (live_values tab s) = K.number ∙ ap (λ (n : ℕ). length (lives n)) e ∙ ap length lives_all ∙ sym list_length in

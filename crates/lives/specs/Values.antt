@@ -1,5 +1,5 @@
 -- The values of one signal as the code finds them: one after the other, each with its life and its element. Assumes nothing.
-use Rattle.std.specs.Prelude.{ℕ, zero, suc, ◌+◌, ◌*◌, ◌-◌, ◌/◌, ◌%◌, ◌≤◌, ◌<◌, Bool, ◌&&◌, List, [], ◌∷◌, map, ◌++◌, ◌≡◌, length, get_or, drop, replicate}
+use Rattle.std.specs.Prelude.{ℕ, ◌+◌, ◌*◌, ◌-◌, ◌/◌, ◌≤◌, ◌<◌, Bool, ◌&&◌, List, [], ◌∷◌, map, ◌++◌, ◌≡◌, length, get_or, take, drop, replicate, Result, Err, MatchResult}
 use Rattle.rules.specs.Words.{gather, only}
 use Rattle.rules.specs.Windows.{instance}
 use Rattle.rules.specs.Windows as windows
@@ -7,7 +7,8 @@ use Rattle.rules.specs.Values.{carried, by, Life}
 use Rattle.rules.specs.Table.{most_tasks, most_signals, most_values, most_elements, longest, Fits}
 use Rattle.rules.specs.Plan.{Placed, line_of}
 use Rattle.rules.specs.Reading.{Grid, table_of, task_of, writes_in, reads_in}
-use Rattle.rules.specs.Numbers.{told}
+use Rattle.rules.specs.Numbers.{told, tell, all_done}
+use Rattle.rules.specs.declared.Refusal.{Refusal}
 use Rattle.rules.specs.declared.Task.{Task}
 use Rattle.rules.specs.declared.Tasks.{Tasks}
 use Rattle.rules.specs.declared.Signals.{Signals}
@@ -59,42 +60,20 @@ pub record Asked (tasks : Tasks) (signals : Signals) (grid : Grid) (h s : ℕ) :
   pub hyper : h ≡ windows.hyper (table_of tasks signals grid)
   pub signal : s < signals.count
 
--- f 0, f 1 and so on, n of them
-abbrev pub firsts : (ℕ → LiveValue) → ℕ → List LiveValue
-firsts f zero = []
-firsts f (suc n) = firsts f n ++ (f n ∷ [])
-
--- value number k
-abbrev pub value_at : Lives → ℕ → LiveValue
-value_at lives k = get_or lives.values k blank
-
 -- the first n records are those of the values, and those beyond stay
 abbrev pub filled : Lives → ℕ → List LiveValue → List LiveValue
-filled lives n ys = firsts (value_at lives) n ++ drop n ys
+filled lives n ys = take n lives.values ++ drop n ys
 
--- ---- the values as plain numbers, five for each
-
-abbrev pub record_words : ℕ
-record_words = 5
-
-abbrev pub record_in : List ℕ → ℕ → LiveValue
-record_in words k = record {
-  task = get_or words (k * record_words) 0 % 256;
-  instance = get_or words (k * record_words + 1) 0 % 65536;
-  from = get_or words (k * record_words + 2) 0;
-  until = get_or words (k * record_words + 3) 0;
-  element = get_or words (k * record_words + 4) 0 % 256;
-}
-
-abbrev pub filled_from : List ℕ → ℕ → List LiveValue → List LiveValue
-filled_from words n ys = firsts (record_in words) n ++ drop n ys
-
--- what a list of so many records is filled with, and what is answered
-pub record Fills (table : List ℕ) (s room : ℕ) (lives : Lives) : Type 0 where
-  pub says : told lives.answer ≡ live_told table s room
+-- what a list of so many records is filled with
+pub record FilledWith (table : List ℕ) (s room : ℕ) (lives : Lives) : Type 0 where
+  pub says : tell all_done lives.count ≡ live_told table s room
   pub fills : (ys : List LiveValue) → filled lives lives.count ys ≡ live_front table s room ys
   pub lent : lives.count ≤ room
   pub few : lives.count ≤ most_values
+
+-- or the rule that broke
+abbrev pub Fills : List ℕ → ℕ → ℕ → Result Lives Refusal → Type 0
+Fills table s room r = MatchResult r (FilledWith table s room) (λ e. told (Err e) ≡ live_told table s room)
 
 -- ---- what is known along the openings and closings of a hyper-period
 

@@ -3,7 +3,6 @@
 
 mod list;
 mod values;
-mod words;
 
 pub use list::{Lived, lent, live_list};
 
@@ -21,10 +20,9 @@ pub struct LiveValue {
     pub element: u8,
 }
 
-// What is answered, and the values to fill in: the first `count` places are in use, none where it is refused.
+// The values to fill in: the first `count` places are in use.
 #[derive(Clone, Copy)]
 pub struct Lives {
-    pub answer: rules::Answer,
     pub values: [LiveValue; rules::MOST_VALUES],
     pub count: usize,
 }

@@ -1,16 +1,17 @@
 // The values of one signal in plan order, each with its life and its element: one until-tick for each element.
-ghost use Rattle.std.specs.Prelude.{◌≡◌, ◌<◌, ◌≤◌, length, set, replicate};
-ghost use Rattle.rules.specs.Numbers.{told, tell, all_done};
+ghost use Rattle.std.specs.Prelude.{◌≡◌, ◌<◌, ◌≤◌, length, set};
 ghost use Rattle.rules.specs.Table.{most_signals, most_values, most_elements};
-ghost use Rattle.rules.specs.Reading.{table_of, writes_in};
+ghost use Rattle.rules.specs.Reading.{writes_in};
+ghost use Rattle.accept.specs.Accepts.{its_table};
 ghost use Rattle.elements.specs.Steps.{free_in};
 ghost use Rattle.lives.specs.Lives.{live_values};
-ghost use Rattle.lives.specs.Values.{shown, blank, padded, writes_at, life_by, Opening, Asked};
+ghost use Rattle.lives.specs.Values.{shown, padded, writes_at, life_by, Opening};
 
 use crate::{BLANK, CARRIED, LiveValue, Lives};
+use accept::Accepted;
 use elements::first_free;
-use events::{KIND, order_events};
-use rules::{Answer, MOST_ELEMENTS, MOST_SIGNALS, MOST_TASKS, MOST_VALUES, Signals, Tasks};
+use events::{KIND, is_opening, order_events};
+use rules::{MOST_ELEMENTS, MOST_SIGNALS, MOST_TASKS, MOST_VALUES, Tasks};
 use signals::{until, writes};
 
 // Whether the event opens a window of a task that writes the signal.
@@ -18,10 +19,7 @@ fn is_written(grid: &[[u8; MOST_SIGNALS]; MOST_TASKS], signal: usize, event: u32
     requires { signal < most_signals }
     ensures { result ≡ writes_at (writes_in grid.now signal) event }
 {
-    if event / KIND % 2 == 1 {
-        return writes(grid, (event % KIND) as usize, signal);
-    }
-    false
+    is_opening(event) && writes(grid, (event % KIND) as usize, signal)
 }
 
 // The value written in that window takes the lowest free element, and holds it while it is live.
@@ -47,25 +45,21 @@ fn written(
     LiveValue {
         task: k as u8,
         instance: i as u16,
-        from: from,
+        from,
         until: last,
         element: e as u8,
     }
 }
 
 // The carried value first, then each writer instance as its window opens.
-pub fn values_of(
-    tasks: Tasks,
-    signals: Signals,
-    grid: &[[u8; MOST_SIGNALS]; MOST_TASKS],
-    signal: usize,
-    hyper: u32,
-) -> Lives
-    requires { Asked tasks signals grid.now hyper signal }
-    ensures answer { told result.answer ≡ tell all_done (length (live_values (table_of tasks signals grid.now) signal)) }
-    ensures count { (result.count ≡ length (live_values (table_of tasks signals grid.now) signal)) × (result.count ≤ most_values) }
-    ensures values { result.values ≡ padded (live_values (table_of tasks signals grid.now) signal) }
+pub fn values_of(accepted: &Accepted, signal: usize) -> Lives
+    requires { signal < accepted.now.signals.count }
+    ensures count { (result.count ≡ length (live_values (its_table accepted.now) signal)) × (result.count ≤ most_values) }
+    ensures values { result.values ≡ padded (live_values (its_table accepted.now) signal) }
 {
+    let tasks = accepted.tasks;
+    let grid = &accepted.grid;
+    let hyper = accepted.hyper;
     let events = order_events(tasks, hyper);
     let carried = until(tasks, grid, signal, hyper, 0);
     let mut held = [0u32; MOST_ELEMENTS];
@@ -79,29 +73,12 @@ pub fn values_of(
         element: 0,
     };
     let mut count: usize = 1;
-    let mut n: usize = 0;
-    while n < events.count {
-        let event = events.list[n];
+    let turns = &events.list[..events.count];
+    for &event in turns {
         if is_written(grid, signal, event) {
             values[count] = written(tasks, grid, signal, hyper, event, &mut held);
             count += 1;
         }
-        n += 1;
     }
-    Lives {
-        answer: Answer::Done(count),
-        values: values,
-        count: count,
-    }
-}
-
-// A refusal: there is nothing to fill in.
-pub fn none(answer: Answer) -> Lives
-    ensures { result ≡ record { answer = answer; values = replicate most_values blank; count = 0 } }
-{
-    Lives {
-        answer: answer,
-        values: [BLANK; MOST_VALUES],
-        count: 0,
-    }
+    Lives { values, count }
 }

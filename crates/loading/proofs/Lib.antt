@@ -1,1 +1,2 @@
+pub mod Stretch
 pub mod Sums

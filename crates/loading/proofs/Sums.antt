@@ -71,3 +71,8 @@ total_split f (suc n) j h =
     split (ltb j (total f n))
     (λ e. let (k, i, a, b, c) = total_split f n j (ltb-true j (total f n) e) in (k, i, omega arith, b, c))
     (λ e. let l = ltb-false j (total f n) e in (n, j - total f n, omega arith, omega arith, omega arith))
+
+-- what the loops over the tasks, and over the signals, add up
+pub ruleset uses = (uses_none, uses_next, uses_up)
+
+pub ruleset before = (used_none, used_next, used_up, base_none, base_next, base_up)

@@ -4,33 +4,30 @@
 ghost use Rattle.std.specs.Prelude.{◌≡◌, ℕ, ◌+◌, ◌*◌, ◌<◌, ◌≤◌, length, get_or, replicate};
 ghost use Rattle.rules.specs.Words.{times, up_to};
 ghost use Rattle.rules.specs.Table.{most_tasks, most_signals, most_uses, words};
-ghost use Rattle.state.specs.Parts.{last_kind};
+ghost use Rattle.state.specs.Kinds.{part_of, right_of};
 ghost use Rattle.loading.specs.Laid.{blank, counts_of, set_window, windows_laid, permits, uses_of, count_in, place_access, place_accesses, place_uses, fill_elements, signal_uses, signal_at, signal_laid, store_laid, Narrow, Windowed, SignalRoom, Room};
 
-use fields::wide;
 use rules::{
-    BF_BYTES, COUNT_AT, ELEMENT_AT, MOST_SIGNALS, MOST_TASKS, READ, Task, Tasks, USE_BYTES, WORDS,
-    WRITE,
+    BF_BYTES, COUNT_AT, ELEMENT_AT, MOST_SIGNALS, MOST_TASKS, Task, Tasks, USE_BYTES, WORDS,
 };
 use state::{
-    CARRIED, CELLS, COUNTS, ENDS, HYPER, LOADED, NONE, NUMBERS, PERIODS, READS, STARTS, USES,
-    WRITES,
+    CARRIED, COUNTS, ENDS, HYPER, Kind, LOADED, NONE, NUMBERS, PERIODS, READS, STARTS, USES,
 };
 
-// Both grids of accesses, one after the other.
-const ACCESSES: usize = CELLS + CELLS;
+// What the signals are loaded from: who may use which, how many instances each task has, the schedule's bytes, and how many tasks there are.
+#[derive(Clone, Copy)]
+pub struct Source<'a> {
+    pub grid: &'a [[u8; MOST_SIGNALS]; MOST_TASKS],
+    pub counts: &'a [u16; MOST_TASKS],
+    pub schedule: &'a [u8],
+    pub tasks: usize,
+}
 
 // How many uses and elements stand before what is loaded next.
 #[derive(Clone, Copy)]
 pub struct Filled {
     pub used: usize,
     pub base: usize,
-}
-
-fn long(x: u16) -> usize
-    ensures { (result ≡ x) × (result < 65536) }
-{
-    x as usize
 }
 
 // The numbers of a machine that is marked as loaded, at tick 0, and has no access.
@@ -41,25 +38,23 @@ pub fn clear(numbers: &mut [u16; NUMBERS], hyper: u32)
     *numbers = [0; NUMBERS];
     numbers[LOADED] = 1;
     numbers[HYPER] = hyper as u16;
-    for c in 0..ACCESSES {
-        numbers[READS + c] = NONE;
-    }
+    numbers[READS..USES].fill(NONE);
 }
 
 // How many instances each task has in a hyper-period.
+#[tactic(auto, using(state::proofs::Folds::acted), unfolding(crate::specs::Laid::counts_of))]
 pub fn count_instances(tasks: Tasks, hyper: u32) -> [u16; MOST_TASKS]
     requires { Windowed tasks × (hyper < 65536) }
     ensures { result ≡ counts_of tasks hyper }
 {
     let mut counts = [0u16; MOST_TASKS];
-    let n = tasks.count;
-    for k in 0..n {
-        let task = tasks.list[k];
-        counts[k] = (hyper / task.period) as u16;
+    for k in 0..tasks.count {
+        counts[k] = (hyper / tasks.list[k].period) as u16;
     }
     counts
 }
 
+#[tactic(auto, unfolding(crate::specs::Laid::set_window))]
 fn load_window(numbers: &mut [u16; NUMBERS], task: usize, window: Task, count: u16)
     requires { (task < most_tasks) × Narrow window }
     ensures { numbers.new ≡ set_window window count task numbers.old }
@@ -71,89 +66,81 @@ fn load_window(numbers: &mut [u16; NUMBERS], task: usize, window: Task, count: u
 }
 
 // Each task's window, with its instances.
+#[tactic(auto, using(state::proofs::Folds::acted), unfolding(crate::specs::Laid::windows_laid))]
 pub fn load_windows(numbers: &mut [u16; NUMBERS], tasks: Tasks, counts: &[u16; MOST_TASKS])
     requires { Windowed tasks }
     ensures { numbers.new ≡ windows_laid tasks counts.now numbers.old }
 {
-    let n = tasks.count;
-    for k in 0..n {
-        let window = tasks.list[k];
-        load_window(numbers, k, window, counts[k]);
+    for k in 0..tasks.count {
+        load_window(numbers, k, tasks.list[k], counts[k]);
     }
 }
 
-fn is_permitted(
-    grid: &[[u8; MOST_SIGNALS]; MOST_TASKS],
-    right: u8,
-    task: usize,
-    signal: usize,
-) -> bool
-    requires { (task < most_tasks) × (signal < most_signals) × (0 < right) }
-    ensures { result ≡ permits grid.now right task signal }
+// By the kind, and not by `signals::reads` and `signals::writes`: a match over both would be longer than this test.
+fn is_permitted(source: Source, kind: Kind, task: usize, signal: usize) -> bool
+    requires { (task < most_tasks) × (signal < most_signals) }
+    ensures { result ≡ permits source.entry.grid.now (right_of kind) task signal }
 {
-    grid[task][signal] / right % 2 == 1
+    source.grid[task][signal] / kind.right() % 2 == 1
 }
 
 // One access: its uses begin here, one for each instance. Returns where the next ones begin.
-fn place_access<'a>(
+#[tactic(auto, unfolding(crate::specs::Laid::place_access))]
+fn place_access(
     numbers: &mut [u16; NUMBERS],
-    kind: usize,
-    grid: &'a [[u8; MOST_SIGNALS]; MOST_TASKS],
-    counts: &'a [u16; MOST_TASKS],
-    right: u8,
+    kind: Kind,
+    source: Source,
     signal: usize,
     used: usize,
     task: usize,
 ) -> usize
-    requires { (kind ≤ last_kind) × (task < most_tasks) × (signal < most_signals) × (0 < right) × (used ≤ most_uses) }
-    ensures { (numbers.new ≡ place_access kind grid.now right signal used task numbers.old)
-        × (result ≡ used + times (permits grid.now right task signal) (get_or counts.now task 0)) }
+    requires { (task < most_tasks) × (signal < most_signals) × (used ≤ most_uses) }
+    ensures { (numbers.new ≡ place_access (part_of kind) source.entry.grid.now (right_of kind) signal used task numbers.old)
+        × (result ≡ used + times (permits source.entry.grid.now (right_of kind) task signal) (get_or source.entry.counts.now task 0)) }
 {
-    if !is_permitted(grid, right, task, signal) {
+    if !is_permitted(source, kind, task, signal) {
         return used;
     }
-    numbers[kind + task * MOST_SIGNALS + signal] = used as u16;
-    used + long(counts[task])
+    numbers[kind.part() + task * MOST_SIGNALS + signal] = used as u16;
+    used + usize::from(source.counts[task])
 }
 
 // All tasks' accesses of one kind to one signal.
-fn place_accesses<'a>(
+#[tactic(auto, using(state::proofs::Folds::acted, crate::proofs::Sums::uses), unfolding(crate::specs::Laid::place_accesses))]
+fn place_accesses(
     numbers: &mut [u16; NUMBERS],
-    kind: usize,
-    grid: &'a [[u8; MOST_SIGNALS]; MOST_TASKS],
-    counts: &'a [u16; MOST_TASKS],
-    tasks: usize,
-    right: u8,
+    kind: Kind,
+    source: Source,
     signal: usize,
     first: usize,
 ) -> usize
-    requires { (kind ≤ last_kind) × (tasks ≤ most_tasks) × (signal < most_signals) × (0 < right) × (first + uses_of grid.now counts.now right signal tasks ≤ most_uses) }
-    ensures { (numbers.new ≡ place_accesses kind grid.now counts.now right signal first tasks numbers.old)
-        × (result ≡ first + uses_of grid.now counts.now right signal tasks) }
+    requires { (source.tasks ≤ most_tasks) × (signal < most_signals) × (first + uses_of source.grid.now source.counts.now (right_of kind) signal source.tasks ≤ most_uses) }
+    ensures { (numbers.new ≡ place_accesses (part_of kind) source.entry.grid.now source.entry.counts.now (right_of kind) signal first source.entry.tasks numbers.old)
+        × (result ≡ first + uses_of source.entry.grid.now source.entry.counts.now (right_of kind) signal source.entry.tasks) }
 {
     let mut used = first;
-    for k in 0..tasks {
-        used = place_access(numbers, kind, grid, counts, right, signal, used, k);
+    for k in 0..source.tasks {
+        used = place_access(numbers, kind, source, signal, used, k);
     }
     used
 }
 
 // The positions of n uses of one signal, from the schedule's elements.
+#[tactic(auto, using(state::proofs::Folds::acted), unfolding(crate::specs::Laid::place_uses))]
 fn place_uses(
     numbers: &mut [u16; NUMBERS],
     schedule: &[u8],
     signal: usize,
-    base: usize,
-    first: usize,
+    before: Filled,
     n: usize,
 )
-    requires { (signal < most_signals) × (base ≤ words) × (first + n ≤ most_uses) × (4 * signal + 7 * (first + n) + 4 ≤ length schedule.now) }
-    ensures { numbers.new ≡ place_uses schedule.now signal base first n numbers.old }
+    requires { (signal < most_signals) × (before.base ≤ words) × (before.used + n ≤ most_uses) × (4 * signal + 7 * (before.used + n) + 4 ≤ length schedule.now) }
+    ensures { numbers.new ≡ place_uses schedule.now signal before.base before.used n numbers.old }
 {
     for j in 0..n {
-        let k = first + j;
+        let k = before.used + j;
         let element = schedule[BF_BYTES * (signal + 1) + USE_BYTES * k + ELEMENT_AT];
-        numbers[USES + k] = (base + wide(element)) as u16;
+        numbers[USES + k] = (before.base + usize::from(element)) as u16;
     }
 }
 
@@ -161,73 +148,51 @@ fn fill_elements(store: &mut [u32; WORDS], base: usize, n: usize, word: u32)
     requires { base + n ≤ words }
     ensures { store.new ≡ fill_elements base n word store.old }
 {
-    for e in 0..n {
-        store[base + e] = word;
-    }
+    store[base..base + n].fill(word);
 }
 
 // One signal: where its element 0 stands, its accesses, its uses and its elements. Returns what stands before the next one.
-fn load_signal<'a>(
+fn load_signal(
     numbers: &mut [u16; NUMBERS],
     store: &mut [u32; WORDS],
-    grid: &'a [[u8; MOST_SIGNALS]; MOST_TASKS],
-    counts: &'a [u16; MOST_TASKS],
-    schedule: &'a [u8],
-    tasks: usize,
+    source: Source,
     word: u32,
-    used: usize,
-    base: usize,
+    before: Filled,
     signal: usize,
 ) -> Filled
-    requires { SignalRoom grid.now counts.now schedule.now tasks used base signal }
-    ensures { (numbers.new ≡ signal_at grid.now counts.now schedule.now tasks used base signal numbers.old)
-        × (store.new ≡ fill_elements base (count_in schedule.now signal used) word store.old)
-        × (result.used ≡ used + signal_uses grid.now counts.now tasks signal)
-        × (result.base ≡ base + count_in schedule.now signal used) }
+    requires { SignalRoom source.grid.now source.counts.now source.schedule.now source.tasks before.used before.base signal }
+    ensures { (numbers.new ≡ signal_at source.entry.grid.now source.entry.counts.now source.entry.schedule.now source.entry.tasks before.used before.base signal numbers.old)
+        × (store.new ≡ fill_elements before.base (count_in source.entry.schedule.now signal before.used) word store.old)
+        × (result.used ≡ before.used + signal_uses source.entry.grid.now source.entry.counts.now source.entry.tasks signal)
+        × (result.base ≡ before.base + count_in source.entry.schedule.now signal before.used) }
 {
-    let count = wide(schedule[BF_BYTES * signal + USE_BYTES * used + COUNT_AT]);
-    fill_elements(store, base, count, word);
-    numbers[CARRIED + signal] = base as u16;
-    let read = place_accesses(numbers, WRITES, grid, counts, tasks, WRITE, signal, used);
-    let end = place_accesses(numbers, READS, grid, counts, tasks, READ, signal, read);
-    place_uses(numbers, schedule, signal, base, used, end - used);
-    Filled {
-        used: end,
-        base: base + count,
-    }
+    let count = usize::from(
+        source.schedule[BF_BYTES * signal + USE_BYTES * before.used + COUNT_AT],
+    );
+    fill_elements(store, before.base, count, word);
+    numbers[CARRIED + signal] = before.base as u16;
+    let read = place_accesses(numbers, Kind::Writes, source, signal, before.used);
+    let used = place_accesses(numbers, Kind::Reads, source, signal, read);
+    place_uses(numbers, source.schedule, signal, before, used - before.used);
+    let base = before.base + count;
+    Filled { used, base }
 }
 
 // All signals, one after the other.
+#[tactic(auto, using(state::proofs::Folds::acted, crate::proofs::Sums::before), unfolding(crate::specs::Laid::signal_laid, crate::specs::Laid::store_laid))]
 pub fn load_signals<'a>(
     numbers: &mut [u16; NUMBERS],
     store: &mut [u32; WORDS],
-    grid: &'a [[u8; MOST_SIGNALS]; MOST_TASKS],
-    counts: &'a [u16; MOST_TASKS],
+    source: Source<'a>,
     defaults: &'a [u32; MOST_SIGNALS],
-    schedule: &'a [u8],
-    tasks: usize,
     signals: usize,
 )
-    requires { Room grid.now counts.now schedule.now tasks signals }
-    ensures { (numbers.new ≡ up_to signals (signal_laid grid.now counts.now schedule.now tasks) numbers.old)
-        × (store.new ≡ up_to signals (store_laid grid.now counts.now schedule.now tasks defaults.now) store.old) }
+    requires { Room source.grid.now source.counts.now source.schedule.now source.tasks signals }
+    ensures { (numbers.new ≡ up_to signals (signal_laid source.entry.grid.now source.entry.counts.now source.entry.schedule.now source.entry.tasks) numbers.old)
+        × (store.new ≡ up_to signals (store_laid source.entry.grid.now source.entry.counts.now source.entry.schedule.now source.entry.tasks defaults.now) store.old) }
 {
-    let mut used = 0;
-    let mut base = 0;
+    let mut next = Filled { used: 0, base: 0 };
     for s in 0..signals {
-        let next = load_signal(
-            numbers,
-            store,
-            grid,
-            counts,
-            schedule,
-            tasks,
-            defaults[s],
-            used,
-            base,
-            s,
-        );
-        used = next.used;
-        base = next.base;
+        next = load_signal(numbers, store, source, defaults[s], next, s);
     }
 }

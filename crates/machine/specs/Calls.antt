@@ -1,13 +1,12 @@
 -- Document 01, "The machine": a step, a read, a write and the open instance, over the numbers, defaults and words that the code keeps. Assumes nothing.
-use Rattle.std.specs.Prelude.{ℕ, ◌+◌, Bool, not, List, leb, eqb, replicate}
+use Rattle.std.specs.Prelude.{ℕ, ◌+◌, Bool, not, List, leb, eqb, replicate, Result, Ok, Err}
+use Rattle.std.specs.Option.{ok_or}
 use Rattle.rules.specs.Words.{when}
 use Rattle.rules.specs.Table.{most_tasks, most_signals, words}
-use Rattle.rules.specs.declared.Answer.{Answer}
+use Rattle.rules.specs.declared.Refusal.{Refusal}
 use Rattle.state.specs.Parts.{at, numbers, counts, reads, writes}
 use Rattle.state.specs.Fitness as fitness
 use Rattle.state.specs.Rows.{inside_of, load, save, published, openings, Lists, advanced, place_of}
-use Rattle.state.specs.declared.Instance.{Instance}
-use Rattle.state.specs.declared.Place.{Place}
 use Rattle.machine.specs.declared.Machine.{Machine}
 use Rattle.machine.specs.declared.Stepped.{Stepped}
 use Rattle.machine.specs.declared.WordRead.{WordRead}
@@ -27,66 +26,73 @@ fit m = fitness.fit m.numbers
 
 -- What a call answers, and the lists that it may change as it leaves them. Loading alone changes the defaults.
 pub record Left : Type 0 where
-  pub answer : Answer
+  pub answer : Result ℕ Refusal
   pub numbers : List ℕ
   pub store : List ℕ
 
-abbrev pub left : Answer → (numbers store : List ℕ) → Left
+abbrev pub left : Result ℕ Refusal → (numbers store : List ℕ) → Left
 left a n s = record { answer = a; numbers = n; store = s }
 
 -- ---- a step
 
 -- openings, at the tick that came
 abbrev pub opened : (defaults : List ℕ) → Lists → Left
-opened d l = left (Answer.Done 0) l.numbers (openings l.numbers d l.store)
+opened d l = left (Ok 0) l.numbers (openings l.numbers d l.store)
 
 -- closings; the next tick, and at H the copies; openings
 unfoldable pub step_in : (numbers defaults store : List ℕ) → Left
-step_in n d s = when (not (fitness.fit n)) (left Answer.Unfit n s) (opened d (advanced (published n) s))
+step_in n d s = when (not (fitness.fit n)) (left (Err Refusal.Unfit) n s) (opened d (advanced (published n) s))
+
+-- ---- an access
+
+-- where the state has a task's access to a signal now, or why nowhere
+abbrev pub position_in : (numbers : List ℕ) → (kind task signal : ℕ) → Result ℕ Refusal
+position_in n kind task signal = when (not (fitness.fit n)) (Err Refusal.Unfit) (place_of n kind task signal)
 
 -- ---- a read
 
-abbrev pub word_read : Answer → ℕ → WordRead
+abbrev pub word_read : Result ℕ Refusal → ℕ → WordRead
 word_read a w = record { answer = a; word = w }
 
-abbrev pub read_at : (store : List ℕ) → Place → WordRead
-read_at s (Place.At p) = word_read (Answer.Done 0) (load s p)
-read_at s Place.NoAccess = word_read Answer.NoAccess 0
-read_at s Place.Outside = word_read Answer.Outside 0
+abbrev pub read_at : (store : List ℕ) → Result ℕ Refusal → WordRead
+read_at s (Ok p) = word_read (Ok 0) (load s p)
+read_at s (Err e) = word_read (Err e) 0
 
 unfoldable pub read_in : (numbers store : List ℕ) → (task signal : ℕ) → WordRead
-read_in n s task signal = when (not (fitness.fit n)) (word_read Answer.Unfit 0) (read_at s (place_of n reads task signal))
+read_in n s task signal = read_at s (position_in n reads task signal)
 
 -- ---- a write
 
-abbrev pub written_at : (numbers store : List ℕ) → (word : ℕ) → Place → Left
-written_at n s word (Place.At p) = left (Answer.Done 0) n (save s p word)
-written_at n s word Place.NoAccess = left Answer.NoAccess n s
-written_at n s word Place.Outside = left Answer.Outside n s
+abbrev pub written_at : (numbers store : List ℕ) → (word : ℕ) → Result ℕ Refusal → Left
+written_at n s word (Ok p) = left (Ok 0) n (save s p word)
+written_at n s word (Err e) = left (Err e) n s
 
 unfoldable pub write_in : (numbers store : List ℕ) → (task signal word : ℕ) → Left
-write_in n s task signal word = when (not (fitness.fit n)) (left Answer.Unfit n s) (written_at n s word (place_of n writes task signal))
+write_in n s task signal word = written_at n s word (position_in n writes task signal)
 
 -- ---- the open instance
 
-abbrev pub instance_read : Answer → ℕ → InstanceRead
+abbrev pub instance_read : Result ℕ Refusal → ℕ → InstanceRead
 instance_read a i = record { answer = a; instance = i }
 
-abbrev pub open_at : Instance → InstanceRead
-open_at (Instance.At i) = instance_read (Answer.Done 0) i
-open_at Instance.Nothing = instance_read Answer.Outside 0
+-- which one it is, or why there is none; a task without instances is none of the table's
+unfoldable pub instance_in : (numbers : List ℕ) → (task : ℕ) → Result ℕ Refusal
+instance_in n task =
+    when (not (fitness.fit n)) (Err Refusal.Unfit)
+    (when (leb most_tasks task) (Err Refusal.NoAccess)
+    (when (eqb (at n (counts + task)) 0) (Err Refusal.NoAccess)
+    (ok_or (inside_of n task) Refusal.Outside)))
 
--- a task without instances is none of the table's
-unfoldable pub open_in : (numbers : List ℕ) → (task : ℕ) → InstanceRead
-open_in n task =
-    when (not (fitness.fit n)) (instance_read Answer.Unfit 0)
-    (when (leb most_tasks task) (instance_read Answer.NoAccess 0)
-    (when (eqb (at n (counts + task)) 0) (instance_read Answer.NoAccess 0)
-    (open_at (inside_of n task))))
+abbrev pub open_at : Result ℕ Refusal → InstanceRead
+open_at (Ok i) = instance_read (Ok 0) i
+open_at (Err e) = instance_read (Err e) 0
+
+abbrev pub open_in : (numbers : List ℕ) → (task : ℕ) → InstanceRead
+open_in n task = open_at (instance_in n task)
 
 -- ---- the same of a machine
 
-abbrev pub answered : Answer → Machine → Stepped
+abbrev pub answered : Result ℕ Refusal → Machine → Stepped
 answered a m = record { answer = a; machine = m }
 
 -- what a call of m leaves

@@ -7,6 +7,7 @@ use Rattle.rules.specs.Schedule.{Schedule, base}
 use Rattle.rules.specs.Bytes.{schedule_in, schedule_length}
 use Rattle.rules.specs.Reading.{Grid, table_of}
 use Rattle.rules.specs.declared.Tasks.{Tasks}
+use Rattle.accept.specs.declared.Accepted.{Accepted}
 use Rattle.rules.specs.declared.Signals.{Signals}
 use Rattle.state.specs.Rows.{openings, released}
 use Rattle.loading.specs.Laid.{blank, counts_of, windows_laid, signal_laid, store_laid}
@@ -23,6 +24,10 @@ pub record Given : Type 0 where
 
 abbrev pub given : Tasks → Signals → Grid → ℕ → List ℕ → Given
 given tasks signals grid hyper schedule = record { tasks = tasks; signals = signals; grid = grid; hyper = hyper; schedule = schedule }
+
+-- an accepted table, with the bytes of a schedule
+abbrev pub given_of : Accepted → List ℕ → Given
+given_of a schedule = given a.tasks a.signals a.grid a.hyper schedule
 
 module _ (g : Given) where
   -- its table, and the schedule that the bytes hold

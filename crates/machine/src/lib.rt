@@ -23,14 +23,14 @@ pub struct Stepped {
     pub machine: Machine,
 }
 
-// A refused read has word 0.
+// A refused read has word 0: the word is returned on a refusal too, so it stands beside the answer and not in it.
 #[derive(Clone, Copy)]
 pub struct WordRead {
     pub answer: Answer,
     pub word: u32,
 }
 
-// A refusal has instance 0.
+// A refusal has instance 0, as C is told.
 #[derive(Clone, Copy)]
 pub struct InstanceRead {
     pub answer: Answer,
@@ -53,33 +53,23 @@ impl Machine {
     pub fn load<'a>(self, table: &'a [u8], schedule: &'a [u8]) -> Stepped
         ensures { Loads self table.now schedule.now result }
     {
-        let mut numbers = self.numbers;
-        let mut defaults = self.defaults;
-        let mut store = self.store;
-        let answer = lists::load(&mut numbers, &mut defaults, &mut store, table, schedule);
-        Stepped {
-            answer: answer,
-            machine: Machine {
-                numbers: numbers,
-                defaults: defaults,
-                store: store,
-            },
-        }
+        let mut machine = self;
+        let answer = lists::load(
+            &mut machine.numbers,
+            &mut machine.defaults,
+            &mut machine.store,
+            table,
+            schedule,
+        );
+        Stepped { answer, machine }
     }
 
     pub fn step(self) -> Stepped
         ensures { StepGives self result }
     {
-        let mut numbers = self.numbers;
-        let mut store = self.store;
-        let answer = lists::step(&mut numbers, &self.defaults, &mut store);
-        let mut next = self;
-        next.numbers = numbers;
-        next.store = store;
-        Stepped {
-            answer: answer,
-            machine: next,
-        }
+        let mut machine = self;
+        let answer = lists::step(&mut machine.numbers, &machine.defaults, &mut machine.store);
+        Stepped { answer, machine }
     }
 
     pub fn read(self, task: usize, signal: usize) -> WordRead
@@ -91,13 +81,8 @@ impl Machine {
     pub fn write(self, task: usize, signal: usize, word: u32) -> Stepped
         ensures { WriteGives self task signal word result }
     {
-        let mut store = self.store;
-        let answer = lists::write(&self.numbers, &mut store, task, signal, word);
-        let mut next = self;
-        next.store = store;
-        Stepped {
-            answer: answer,
-            machine: next,
-        }
+        let mut machine = self;
+        let answer = lists::write(&machine.numbers, &mut machine.store, task, signal, word);
+        Stepped { answer, machine }
     }
 }

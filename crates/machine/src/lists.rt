@@ -1,17 +1,18 @@
 // Loading, a step, a read and a write over the machine's lists, lent where they lie: nothing of the machine is copied.
 ghost use Rattle.std.specs.Prelude.{◌≡◌};
-ghost use Rattle.machine.specs.Calls.{keeping};
-ghost use Rattle.machine.specs.Started.{given, started, Checked};
+ghost use Rattle.state.specs.Kinds.{part_of};
+ghost use Rattle.machine.specs.Calls.{keeping, position_in, instance_in};
+ghost use Rattle.machine.specs.Started.{given_of, started, Checked};
 ghost use Rattle.machine.specs.Gives.{ListsLoadGives, ListsStepGives, ListsReadGives, ListsWriteGives, ListsOpenGives};
 
 use crate::{InstanceRead, WordRead};
-use answers::{DONE, number};
-use rules::{Answer, MOST_SIGNALS, MOST_TASKS, Signals, Tasks, WORDS};
-use sections::grid::read_grid;
-use state::{Instance, NUMBERS, Place, READS, WRITES};
-use table::read_table;
+use accept::{Accepted, accept};
+use loading::Source;
+use rules::{Answer, MOST_SIGNALS, MOST_TASKS, Refusal, WORDS};
+use state::{Kind, NUMBERS};
 use verdict::check_with;
 
+#[tactic(auto, unfolding(crate::specs::Calls::step_in, rules::specs::Words::when))]
 pub fn step(
     numbers: &mut [u16; NUMBERS],
     defaults: &[u32; MOST_SIGNALS],
@@ -20,14 +21,31 @@ pub fn step(
     ensures { ListsStepGives numbers.old defaults.now store.old result numbers.new store.new }
 {
     if !state::is_fit(numbers) {
-        return Answer::Unfit;
+        return Err(Refusal::Unfit);
     }
     state::publish_all(numbers);
     state::advance(numbers, store);
     state::open_all(numbers, defaults, store);
-    Answer::Done(0)
+    Ok(0)
 }
 
+// Where the state has a task's access to a signal now.
+#[tactic(auto, unfolding(rules::specs::Words::when))]
+fn position(
+    numbers: &[u16; NUMBERS],
+    kind: Kind,
+    task: usize,
+    signal: usize,
+) -> Result<u16, Refusal>
+    ensures { result ≡ position_in numbers.now (part_of kind) task signal }
+{
+    if !state::is_fit(numbers) {
+        return Err(Refusal::Unfit);
+    }
+    state::locate(numbers, kind, task, signal)
+}
+
+#[tactic(auto, unfolding(crate::specs::Calls::read_in))]
 pub fn read<'a>(
     numbers: &'a [u16; NUMBERS],
     store: &'a [u32; WORDS],
@@ -36,28 +54,19 @@ pub fn read<'a>(
 ) -> WordRead
     ensures { ListsReadGives numbers.now store.now task signal result }
 {
-    if !state::is_fit(numbers) {
-        return WordRead {
-            answer: Answer::Unfit,
-            word: 0,
-        };
-    }
-    match state::locate(numbers, READS, task, signal) {
-        Place::At(position) => WordRead {
-            answer: Answer::Done(0),
+    match position(numbers, Kind::Reads, task, signal) {
+        Ok(position) => WordRead {
+            answer: Ok(0),
             word: state::load(store, position),
         },
-        Place::NoAccess => WordRead {
-            answer: Answer::NoAccess,
-            word: 0,
-        },
-        Place::Outside => WordRead {
-            answer: Answer::Outside,
+        Err(refusal) => WordRead {
+            answer: Err(refusal),
             word: 0,
         },
     }
 }
 
+#[tactic(auto, unfolding(crate::specs::Calls::write_in))]
 pub fn write(
     numbers: &[u16; NUMBERS],
     store: &mut [u32; WORDS],
@@ -67,48 +76,35 @@ pub fn write(
 ) -> Answer
     ensures { ListsWriteGives numbers.now store.old task signal word result store.new }
 {
-    if !state::is_fit(numbers) {
-        return Answer::Unfit;
-    }
-    match state::locate(numbers, WRITES, task, signal) {
-        Place::At(position) => {
-            state::save(store, position, word);
-            Answer::Done(0)
-        }
-        Place::NoAccess => Answer::NoAccess,
-        Place::Outside => Answer::Outside,
-    }
+    let position = position(numbers, Kind::Writes, task, signal)?;
+    state::save(store, position, word);
+    Ok(0)
 }
 
 // Which instance of a task is inside its window now. A task without instances is none of the table's.
+#[tactic(auto, unfolding(crate::specs::Calls::instance_in, rules::specs::Words::when))]
+fn instance(numbers: &[u16; NUMBERS], task: usize) -> Result<u16, Refusal>
+    ensures { result ≡ instance_in numbers.now task }
+{
+    if !state::is_fit(numbers) {
+        return Err(Refusal::Unfit);
+    }
+    if MOST_TASKS <= task || state::task_window(numbers, task).count == 0 {
+        return Err(Refusal::NoAccess);
+    }
+    state::inside(numbers, task).ok_or(Refusal::Outside)
+}
+
 pub fn open_instance(numbers: &[u16; NUMBERS], task: usize) -> InstanceRead
     ensures { ListsOpenGives numbers.now task result }
 {
-    if !state::is_fit(numbers) {
-        return InstanceRead {
-            answer: Answer::Unfit,
-            instance: 0,
-        };
-    }
-    if MOST_TASKS <= task {
-        return InstanceRead {
-            answer: Answer::NoAccess,
-            instance: 0,
-        };
-    }
-    if state::instances(numbers, task) == 0 {
-        return InstanceRead {
-            answer: Answer::NoAccess,
-            instance: 0,
-        };
-    }
-    match state::inside(numbers, task) {
-        Instance::At(i) => InstanceRead {
-            answer: Answer::Done(0),
-            instance: i,
+    match instance(numbers, task) {
+        Ok(instance) => InstanceRead {
+            answer: Ok(0),
+            instance,
         },
-        Instance::Nothing => InstanceRead {
-            answer: Answer::Outside,
+        Err(refusal) => InstanceRead {
+            answer: Err(refusal),
             instance: 0,
         },
     }
@@ -124,27 +120,10 @@ pub fn load<'a, 'b>(
 ) -> Answer
     ensures { ListsLoadGives numbers.old defaults.old store.old table.now schedule.now result numbers.new defaults.new store.new }
 {
-    let read = read_table(table);
-    let refusal = read.answer;
-    if number(refusal) != DONE {
-        return refusal;
-    }
-    let grid = read_grid(table);
-    let answer = check_with(read, &grid, schedule);
-    if number(answer) != DONE {
-        return answer;
-    }
-    start(
-        numbers,
-        defaults,
-        store,
-        read.tasks,
-        read.signals,
-        &grid,
-        read.hyper,
-        schedule,
-    );
-    answer
+    let accepted = accept(table)?;
+    let done = check_with(&accepted, schedule)?;
+    start(numbers, defaults, store, &accepted, schedule);
+    Ok(done)
 }
 
 // Loading after its checks: the block zeroed, every element filled with its default, tick 0 opened.
@@ -152,31 +131,24 @@ fn start<'a, 'b>(
     numbers: &'b mut [u16; NUMBERS],
     defaults: &'b mut [u32; MOST_SIGNALS],
     store: &'b mut [u32; WORDS],
-    tasks: Tasks,
-    signals: Signals,
-    grid: &'a [[u8; MOST_SIGNALS]; MOST_TASKS],
-    hyper: u32,
+    accepted: &'a Accepted,
     schedule: &'a [u8],
 )
-    requires { Checked (given tasks signals grid.now hyper schedule.now) }
-    ensures { keeping numbers.new defaults.new store.new ≡ started (given tasks signals grid.now hyper schedule.now) }
+    requires { Checked (given_of accepted.now schedule.now) }
+    ensures { keeping numbers.new defaults.new store.new ≡ started (given_of accepted.now schedule.now) }
 {
-    let counts = loading::count_instances(tasks, hyper);
-    loading::clear(numbers, hyper);
-    loading::load_windows(numbers, tasks, &counts);
-    let fresh = signals.defaults;
-    *defaults = fresh;
+    let counts = loading::count_instances(accepted.tasks, accepted.hyper);
+    loading::clear(numbers, accepted.hyper);
+    loading::load_windows(numbers, accepted.tasks, &counts);
+    *defaults = accepted.signals.defaults;
     *store = [0; WORDS];
-    loading::load_signals(
-        numbers,
-        store,
-        grid,
-        &counts,
-        defaults,
+    let source = Source {
+        grid: &accepted.grid,
+        counts: &counts,
         schedule,
-        tasks.count,
-        signals.count,
-    );
+        tasks: accepted.tasks.count,
+    };
+    loading::load_signals(numbers, store, source, defaults, accepted.signals.count);
     state::release_all(numbers);
     state::open_all(numbers, defaults, store);
 }

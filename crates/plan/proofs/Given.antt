@@ -1,4 +1,5 @@
 -- What follows from the contract of `plan`. Assumes nothing.
+use Rattle.std.specs.Prelude.{Result}
 use Prim.Native.Nat.{ℕ, ◌≤◌}
 use mathlib.Core.Path.{◌≡◌, sym, ap, ◌∙◌}
 use mathlib.Core.List.{List, ◌++◌}
@@ -15,7 +16,7 @@ use Rattle.rules.specs.Bytes.{bytes_of, schedule_length}
 use Rattle.rules.specs.Numbers.{Told, tell, told, all_done}
 use Rattle.rules.specs.Answers.{plan_says}
 use Rattle.rules.specs.Reading.{table_in, read_says}
-use Rattle.rules.specs.declared.Answer.{Answer}
+use Rattle.rules.specs.declared.Refusal.{Refusal}
 use Rattle.theory.proofs.Tests.{split}
 use Rattle.theory.proofs.Checked.{when_false}
 use Rattle.theory.proofs.Laid.{bytes_length}
@@ -68,7 +69,7 @@ module _ (table out : List ℕ) where
   refused_out n = off _ _ (ne_eqb (read_says table).number all_done n)
 
 -- what number 0 comes with
-pub record Done (table out : List ℕ) (r : Answer) (after : List ℕ) : Type 0 where
+pub record Done (table out : List ℕ) (r : Result ℕ Refusal) (after : List ℕ) : Type 0 where
   pub accepted : (read_says table).number ≡ all_done
   pub done : (plan_says (table_in table) (length out)).number ≡ all_done
   pub passes : Passes (table_in table) (plan (table_in table))
@@ -77,7 +78,7 @@ pub record Done (table out : List ℕ) (r : Answer) (after : List ℕ) : Type 0 
   pub left : after ≡ bytes_of (table_in table) (plan (table_in table)) ++ drop (schedule_length (table_in table)) out
   pub front : take (told r).place after ≡ bytes_of (table_in table) (plan (table_in table))
 
-module _ (table out : List ℕ) (r : Answer) (after : List ℕ) (g : PlanGives table out r after) where
+module _ (table out : List ℕ) (r : Result ℕ Refusal) (after : List ℕ) (g : PlanGives table out r after) where
   abbrev tab : Table
   tab = table_in table
 

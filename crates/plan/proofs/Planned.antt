@@ -2,19 +2,19 @@
 use mathlib.Core.List.{List, [], ◌∷◌, ◌++◌}
 use mathlib.Core.Logic.{inl}
 use mathlib.Core.Path.{◌≡◌, refl, sym, ap, ap₂, subst, ◌∙◌}
+use native.Mathlib.Nat.{le_refl}
 use Prim.Native.Nat.{ℕ, zero, suc, ◌≤◌, ◌<◌}
 use native.Mathlib.Omega.{arith}
 use lib.Dec.{eqb}
-use lib.ListN.{length, get_or, set, drop, replicate, length-set, length-replicate}
+use lib.ListN.{length, get_or, set, take, drop, replicate, length-set, length-replicate}
 use lib.Seq.{get_or-set_same, get_or-set_other}
 use borrow.Author.Tests.{lt-ltb, le-ltb, eqb-true, eqb-false, eq-eqb, ne_eqb}
 use Rattle.rules.specs.Words.{total}
 use Rattle.rules.specs.Windows.{Table, hyper}
-use Rattle.rules.specs.Table as table
 use Rattle.rules.specs.Table.{most_signals, most_uses, Fits}
 use Rattle.rules.specs.Schedule.{Schedule, room, base}
 use Rattle.rules.specs.Plan.{plan}
-use Rattle.rules.specs.Bytes.{Part, bf, wi, ri, fixed, free, writers_below, readers_below, size_of, parts, records_of, bytes_of, schedule_length}
+use Rattle.rules.specs.Bytes.{Part, bf, wi, ri, fixed, free, writers_below, readers_below, parts, records_of, bytes_of, schedule_length}
 use Rattle.rules.specs.Numbers.{Told, tell}
 use Rattle.rules.specs.Answers.{plan_says}
 use Rattle.rules.specs.Reading.{Grid, table_of, no_grid}
@@ -27,12 +27,14 @@ use Rattle.theory.proofs.Lists.{All}
 use Rattle.theory.proofs.Checked.{Of, parts_of_lem}
 use Rattle.theory.proofs.Answered.{plan_says_lem}
 use Rattle.theory.proofs.Chosen.{first_upto, first_all, use_within, plan_chosen}
-use Rattle.schedule.specs.Writing.{uses_before, number_of, schedule_of, Room}
+use Rattle.schedule.specs.Writing.{uses_before, number_of, schedule_of}
 use Rattle.events.proofs.Alone.{fits_alone, hyper_alone}
 use Rattle.elements.specs.Pass.{pass_table}
 use Rattle.plan.specs.Uses.{Planning, uses_planned, counts_planned}
 use Rattle.plan.specs.Planning.{planned_into}
-use Rattle.plan.proofs.Laying.{total_below}
+use Rattle.form.proofs.Tables.{total_below}
+use Rattle.std.specs.List.{sum}
+use Rattle.plan.proofs.Laying.{total_sum}
 
 -- the bytes depend on the counts and elements of the records alone
 records_same : (tab : Table) (D E : Schedule) (xs : List Part) → All (λ x. free D x ≡ free E x) xs → records_of tab D xs ≡ records_of tab E xs
@@ -129,8 +131,10 @@ module _ (tasks : Tasks) (S : Signals) (grid : Grid) where
   no_uses = replicate most_uses 0
 
   module _ (F : Fits tab) (C U : List ℕ) (a : C ≡ counts_planned (pass_table tasks grid) no_counts no_uses S.count) (b : U ≡ uses_planned (pass_table tasks grid) no_uses S.count) where
-    pub sum_of : (sum : ℕ) → sum ≡ total (λ s. get_or C s 0) S.count → sum ≡ base (plan tab) S.count
-    sum_of sum e = e ∙ ap (λ (C : List ℕ). total (λ s. get_or C s 0) S.count) a ∙ sum_is F no_counts no_uses (length-replicate {A = ℕ} most_signals 0) (length-replicate {A = ℕ} most_uses 0) S.count refl
+    pub sum_of : (n : ℕ) → n ≡ sum (take S.count C) → n ≡ base (plan tab) S.count
+    sum_of n e =
+        let size : S.count ≤ length C = rw a (omega (arith, (counts_right F no_counts no_uses (length-replicate {A = ℕ} most_signals 0) (length-replicate {A = ℕ} most_uses 0) S.count (le_refl S.count)).size, F.few_signals)) in
+        e ∙ total_sum C S.count size ∙ ap (λ (C : List ℕ). total (λ s. get_or C s 0) S.count) a ∙ sum_is F no_counts no_uses (length-replicate {A = ℕ} most_signals 0) (length-replicate {A = ℕ} most_uses 0) S.count refl
 
     pub bytes_of_lem : bytes_of tab (schedule_of tab C U) ≡ bytes_of tab (plan tab)
     bytes_of_lem =
@@ -145,19 +149,6 @@ module _ (tasks : Tasks) (S : Signals) (grid : Grid) where
     hyper = e ∙ hyper_alone tasks S grid;
     room = omega (arith, same_first n, first_all tab F, ap (first_use tab) q);
   }
-
-  -- the uses and the length do not look at the defaults
-  same_uses : (R : Signals) → R.count ≡ S.count → table.uses (table_of tasks R grid) ≡ table.uses tab
-  unfolding table.uses table.accesses_of hyper
-  same_uses R q = rw q
-
-  same_length : (R : Signals) → R.count ≡ S.count → schedule_length (table_of tasks R grid) ≡ schedule_length tab
-  unfolding schedule_length size_of writers_below readers_below hyper
-  same_length R q = rw q
-
-  -- a schedule that fits so many bytes has room
-  pub room_for : Fits tab → (lent : ℕ) → schedule_length tab ≤ lent → Room tasks S.count grid lent
-  room_for F lent h R q = (omega (arith, same_uses R q, F.few_uses), omega (arith, same_length R q))
 
 -- ---- the answers 13, 14 and 0, and what the buffer holds then
 

@@ -10,21 +10,17 @@ use Rattle.events.specs.Order.{tasks_table}
 use Rattle.form.specs.declared.sides.Side.{Side}
 use Rattle.form.specs.Records.{users_below}
 use Rattle.elements.specs.Pass.{pass_table}
-use Rattle.plan.specs.declared.uses.Laid.{Laid}
+use Rattle.elements.specs.declared.pass.Numbers.{Numbers}
 
 module _ (grid : Grid) (instances : List ℕ) where
-  -- the numbers of the tasks below n on one side of signal s
-  abbrev pub NumberedFrom : Side → ℕ → ℕ → ℕ → List ℕ → Type 0
-  NumberedFrom side s first n numbers = (k : ℕ) → k < n → get_or numbers k 0 ≡ first + users_below grid instances side s k
-
   -- the uses of signal s on both sides
   abbrev pub users_in : ℕ → ℕ → ℕ
   users_in s tasks = users_below grid instances Side.Writers s tasks + users_below grid instances Side.Readers s tasks
 
-  pub record Numbered (s first tasks : ℕ) (laid : Laid) : Type 0 where
-    pub writers : NumberedFrom Side.Writers s first tasks laid.numbers.writers
-    pub readers : NumberedFrom Side.Readers s (first + users_below grid instances Side.Writers s tasks) tasks laid.numbers.readers
-    pub end : laid.end ≡ first + users_in s tasks
+  -- the numbers of the tasks' first uses, if those of the signal begin with this one
+  pub record Numbered (s first tasks : ℕ) (numbers : Numbers) : Type 0 where
+    pub writers : (k : ℕ) → k < tasks → get_or numbers.writers k 0 ≡ first + users_below grid instances Side.Writers s k
+    pub readers : (k : ℕ) → k < tasks → get_or numbers.readers k 0 ≡ first + users_below grid instances Side.Writers s tasks + users_below grid instances Side.Readers s k
 
 -- what planning asks of a table
 pub record Planning (tasks : Tasks) (signals : ℕ) (grid : Grid) (h : ℕ) : Type 0 where

@@ -1,4 +1,5 @@
 -- The live list is right: specs/Lists.antt, proved.
+use Rattle.std.specs.Prelude.{Result}
 use Prim.Native.Nat.{ℕ}
 use mathlib.Core.Path.{◌≡◌, sym, ap, subst, ◌∙◌}
 use mathlib.Core.List.{List, ◌++◌}
@@ -8,7 +9,7 @@ use Rattle.rules.specs.Plan.{live_list}
 use Rattle.rules.specs.Numbers.{Told, tell, told, all_done}
 use Rattle.rules.specs.Answers.{live_says}
 use Rattle.rules.specs.Reading.{table_in, read_says}
-use Rattle.rules.specs.declared.Answer.{Answer}
+use Rattle.rules.specs.declared.Refusal.{Refusal}
 use Rattle.theory.specs.First.{FirstBrokenElse, BrokenLive, live_rule_told, live_rules}
 use Rattle.theory.proofs.Proved.{live_says_first}
 use Rattle.fields.proofs.Told.{told_exact}
@@ -36,7 +37,7 @@ module _ (table : List ℕ) (signal : ℕ) (list : List LiveValue) where
   unfolding live_front
   front_refused n = off _ _ (ne_eqb (live_told table signal (length list)).number all_done n)
 
-module _ (table : List ℕ) (signal : ℕ) (list : List LiveValue) (r : Answer) (after : List LiveValue) (g : ListGives table signal list r after) where
+module _ (table : List ℕ) (signal : ℕ) (list : List LiveValue) (r : Result ℕ Refusal) (after : List LiveValue) (g : ListGives table signal list r after) where
   number_is : (told r).number ≡ (live_told table signal (length list)).number
   number_is = ap (λ (t : Told). t.number) g.0
 

@@ -1,7 +1,7 @@
 -- No other result meets a contract: specs/One.antt, proved.
 use mathlib.Core.Path.{◌≡◌, sym, ◌∙◌}
 use Rattle.fields.proofs.Told.{told_exact}
-use Rattle.records.proofs.Exact.{task_exact, signal_exact, access_exact, end_exact}
+use Rattle.records.proofs.Exact.{step_exact, end_exact}
 use Rattle.lives.specs.declared.list.Lived.{Lived}
 use Rattle.table.proofs.Exact.{table_exact}
 use Rattle.machine.specs.Calls.{keeping, answered}
@@ -45,9 +45,9 @@ determined = record {
   lists_open = λ n task. named _;
   number = λ a. named _;
   place = λ a. named _;
-  task = λ bytes count place a b p q. task_exact a b (p ∙ sym q);
-  signal = λ bytes count place a b p q. signal_exact a b (p ∙ sym q);
-  access = λ bytes tasks signals count last place a b p q. access_exact a b (p ∙ sym q);
+  task = λ bytes count place a b p q. step_exact a b (p ∙ sym q);
+  signal = λ bytes count place a b p q. step_exact a b (p ∙ sym q);
+  access = λ bytes tasks signals count last place a b p q. step_exact a b (p ∙ sym q);
   end = λ bytes place a b p q. end_exact a b (p ∙ sym q);
   reader = λ table place. named _;
   read_grid = λ bytes. named _;

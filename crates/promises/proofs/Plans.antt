@@ -1,4 +1,5 @@
 -- Planning is right: specs/Plans.antt, proved.
+use Rattle.std.specs.Prelude.{Result}
 use Prim.Native.Nat.{ℕ}
 use mathlib.Core.Path.{◌≡◌, sym, ap, subst, ◌∙◌}
 use mathlib.Core.List.{List}
@@ -10,7 +11,7 @@ use Rattle.rules.specs.Plan as plans
 use Rattle.rules.specs.Bytes.{schedule_length}
 use Rattle.rules.specs.Numbers.{Told, tell, all_done}
 use Rattle.rules.specs.Reading.{table_in, read_says}
-use Rattle.rules.specs.declared.Answer.{Answer}
+use Rattle.rules.specs.declared.Refusal.{Refusal}
 use Rattle.theory.specs.First.{FirstBrokenElse, BrokenPlan, plan_rule_told, plan_rules}
 use Rattle.theory.proofs.Planned.{no_fewer, no_fewer_in_all}
 use Rattle.theory.proofs.Proved.{plan_answered, plan_says_first, whatever_is_read_keeps, bytes_checked_exactly}
@@ -19,7 +20,7 @@ use Rattle.plan.specs.Gives.{PlanGives}
 use Rattle.plan.proofs.Given.{done_where, says, says_refused, done, unchanged}
 use Rattle.promises.specs.Plans.{PlansRightly, AllPlansRightly}
 
-module _ (table out : List ℕ) (r : Answer) (after : List ℕ) (g : PlanGives table out r after) where
+module _ (table out : List ℕ) (r : Result ℕ Refusal) (after : List ℕ) (g : PlanGives table out r after) where
   abbrev tab : Table
   tab = table_in table
 

@@ -1,4 +1,5 @@
 -- The machine runs as promised: specs/Runs.antt, proved.
+use Rattle.std.specs.Prelude.{Result, Ok, Err}
 use Prim.Native.Nat.{ℕ}
 use mathlib.Core.Path.{◌≡◌, refl, sym, ap, ap₂, subst, ◌∙◌}
 use mathlib.Core.Bool.{true, false}
@@ -17,7 +18,7 @@ use Rattle.rules.specs.Meaning.{word, Call, step, read, write, refused, past}
 use Rattle.rules.specs.Machine.{State, Layout, separate, loaded, answer, after, run}
 use Rattle.rules.specs.Loading.{Request, load, call, load_says, accepts, idle, on, reply, following, replies, Story, untold, since, telling}
 use Rattle.rules.specs.Loading as loading
-use Rattle.rules.specs.declared.Answer.{Answer}
+use Rattle.rules.specs.declared.Refusal.{Refusal}
 use Rattle.theory.specs.Promises.{Demand3}
 use Rattle.theory.proofs.Tests.{split}
 use Rattle.theory.proofs.Loads.{load_accepts}
@@ -28,7 +29,7 @@ use Rattle.machine.specs.declared.Stepped.{Stepped}
 use Rattle.machine.specs.declared.WordRead.{WordRead}
 use Rattle.state.specs.Parts as parts
 use Rattle.state.specs.Rows.{place_of}
-use Rattle.state.specs.declared.Place.{Place}
+use Rattle.state.proofs.Places.{place_cases}
 use Rattle.machine.specs.Calls.{keeping, unloaded, fit, Left, read_at, written_at, step_in, read_in, write_in}
 use Rattle.machine.specs.Gives.{NewGives}
 use Rattle.machine.specs.Load.{load_leaves}
@@ -52,21 +53,17 @@ code_leaves m (load table schedule) = load_leaves m table schedule
 code_leaves m (call c) = call_leaves m c
 
 -- the place of what a call says is 0
-read_place : (store : List ℕ) (p : Place) → (told (read_at store p).answer).place ≡ 0
-read_place store (Place.At p) = refl
-read_place store Place.NoAccess = refl
-read_place store Place.Outside = refl
+read_place : (n store : List ℕ) (k s : ℕ) → (told (read_at store (place_of n parts.reads k s)).answer).place ≡ 0
+read_place n store k s = place_cases (λ p. (told (read_at store p).answer).place ≡ 0) (λ p. refl) refl refl n parts.reads k s
 
-write_place : (n store : List ℕ) (w : ℕ) (p : Place) → (told (written_at n store w p).answer).place ≡ 0
-write_place n store w (Place.At p) = refl
-write_place n store w Place.NoAccess = refl
-write_place n store w Place.Outside = refl
+write_place : (n store : List ℕ) (w k s : ℕ) → (told (written_at n store w (place_of n parts.writes k s)).answer).place ≡ 0
+write_place n store w k s = place_cases (λ p. (told (written_at n store w p).answer).place ≡ 0) (λ p. refl) refl refl n parts.writes k s
 
 no_place : (m : Machine) (c : Call) → (call_said m c).told.place ≡ 0
 unfolding step_in read_in write_in when
 no_place m step = split (fit m) (λ f. rw f) (λ f. rw f)
-no_place m (read k s) = split (fit m) (λ f. rw f (read_place m.store (place_of m.numbers parts.reads k s))) (λ f. rw f)
-no_place m (write k s c) = split (fit m) (λ f. rw f (write_place m.numbers m.store (word_in c) (place_of m.numbers parts.writes k s))) (λ f. rw f)
+no_place m (read k s) = split (fit m) (λ f. rw f (read_place m.numbers m.store k s)) (λ f. rw f)
+no_place m (write k s c) = split (fit m) (λ f. rw f (write_place m.numbers m.store (word_in c) k s)) (λ f. rw f)
 
 -- what C is told of a call
 told_from_C : (m : Machine) (c : Call) (number w : ℕ) → number ≡ (call_said m c).told.number → w ≡ (call_said m c).word → said (tell number 0) w ≡ call_said m c
@@ -89,19 +86,19 @@ gives_said m e a n (press_writes k s w number q f) = (told_from_C m (write k s (
 -- ---- demand 1 of any call
 
 -- a call's answer that has 25 is Unfit
-unfit_answer : (m : Machine) (c : Call) (x : Answer) → told x ≡ (call_said m c).told → (call_said m c).told.number ≡ unfit → x ≡ Answer.Unfit
-unfit_answer m c x e q = told_exact x Answer.Unfit (e ∙ (λ i. tell (q i) (no_place m c i)))
+unfit_answer : (m : Machine) (c : Call) (x : Result ℕ Refusal) → told x ≡ (call_said m c).told → (call_said m c).told.number ≡ unfit → x ≡ (Err Refusal.Unfit)
+unfit_answer m c x e q = told_exact x (Err Refusal.Unfit) (e ∙ (λ i. tell (q i) (no_place m c i)))
 
 call_unfit : (m : Machine) (c : Call) → ((call_said m c).told.number ≡ unfit) ↔ (fit m ≡ false)
-call_unfit m step = (λ q. (unfit_exact m).step.0 (unfit_answer m step _ refl q), λ f. ap (λ (x : Answer). (told x).number) ((unfit_exact m).step.1 f))
-call_unfit m (read k s) = (λ q. ((unfit_exact m).read k s).0 (unfit_answer m (read k s) _ refl q), λ f. ap (λ (x : Answer). (told x).number) (((unfit_exact m).read k s).1 f))
+call_unfit m step = (λ q. (unfit_exact m).step.0 (unfit_answer m step _ refl q), λ f. ap (λ (x : Result ℕ Refusal). (told x).number) ((unfit_exact m).step.1 f))
+call_unfit m (read k s) = (λ q. ((unfit_exact m).read k s).0 (unfit_answer m (read k s) _ refl q), λ f. ap (λ (x : Result ℕ Refusal). (told x).number) (((unfit_exact m).read k s).1 f))
 call_unfit m (write k s c) =
-    (λ q. ((unfit_exact m).write k s (word_in c)).0 (unfit_answer m (write k s c) _ refl q), λ f. ap (λ (x : Answer). (told x).number) (((unfit_exact m).write k s (word_in c)).1 f))
+    (λ q. ((unfit_exact m).write k s (word_in c)).0 (unfit_answer m (write k s c) _ refl q), λ f. ap (λ (x : Result ℕ Refusal). (told x).number) (((unfit_exact m).write k s (word_in c)).1 f))
 
 call_refused : (m : Machine) (c : Call) → ((call_said m c).told.number ≡ 0 → ⊥) → (call_leaves m c ≡ m) × ((call_said m c).word ≡ 0)
-call_refused m step n = ((refused_leaves m).step (λ e. n (ap (λ (x : Answer). (told x).number) e)), refl)
-call_refused m (read k s) n = (refl, (refused_leaves m).read k s (λ e. n (ap (λ (x : Answer). (told x).number) e)))
-call_refused m (write k s c) n = ((refused_leaves m).write k s (word_in c) (λ e. n (ap (λ (x : Answer). (told x).number) e)), refl)
+call_refused m step n = ((refused_leaves m).step (λ e. n (ap (λ (x : Result ℕ Refusal). (told x).number) e)), refl)
+call_refused m (read k s) n = (refl, (refused_leaves m).read k s (λ e. n (ap (λ (x : Result ℕ Refusal). (told x).number) e)))
+call_refused m (write k s c) n = ((refused_leaves m).write k s (word_in c) (λ e. n (ap (λ (x : Result ℕ Refusal). (told x).number) e)), refl)
 
 call_fits : (m : Machine) (c : Call) → fit m ≡ true → fit (call_leaves m c) ≡ true
 call_fits m step f = step_fits m f
@@ -267,7 +264,7 @@ pub loads_exactly : LoadsExactly
 loads_exactly m table schedule r f =
     record {
       accepted = (λ e. done_passing table schedule (number e), λ (e, (E, A, b)). ap (λ (t : Told). t.number) (f.0 ∙ passing_done table schedule e E A b));
-      done = λ e. let (x, (E, A, b)) = done_passing table schedule (number e) in told_exact r.answer (Answer.Done 0) (f.0 ∙ passing_done table schedule x E A b);
+      done = λ e. let (x, (E, A, b)) = done_passing table schedule (number e) in told_exact r.answer (Ok 0) (f.0 ∙ passing_done table schedule x E A b);
       refused = λ n. f.1 ∙ refused_stays table schedule m (λ e. n (ap (λ (t : Told). t.number) f.0 ∙ e));
       one = λ q g. loads_exact m table schedule q r g f;
     }

@@ -1,4 +1,5 @@
 -- Schedules are checked exactly: specs/Schedules.antt, proved.
+use Rattle.std.specs.Prelude.{Ok}
 use Prim.Native.Nat.{ℕ}
 use mathlib.Core.Path.{◌≡◌, sym, ap, subst, ◌∙◌}
 use mathlib.Core.Bool.{not}
@@ -12,7 +13,6 @@ use Rattle.rules.specs.Numbers.{Told, tell, told, all_done}
 use Rattle.rules.specs.Answers.{check_says}
 use Rattle.rules.specs.Reading.{table_in, read_says}
 use Rattle.rules.specs.Loading.{load_says}
-use Rattle.rules.specs.declared.Answer.{Answer}
 use Rattle.theory.specs.First.{FirstBroken, BrokenCheck, check_told, check_rules}
 use Rattle.theory.proofs.Loads.{both_accepted}
 use Rattle.theory.proofs.Proved.{bytes_checked_exactly, check_says_first, whatever_is_read_keeps}
@@ -49,7 +49,7 @@ schedules_exactly table schedule r g = record {
   accepted = λ e. ((λ z. (done_passing table schedule (number z)).1), λ (E, A, b). ap (λ (t : Told). t.number) (g ∙ passing_done table schedule e E A b));
   first_broken = λ e. subst (FirstBroken (BrokenCheck (table_in table) schedule) (check_told (table_in table)) (check_rules (table_in table)))
       (sym (g ∙ read_first table schedule e)) (check_says_first (table_in table) ((whatever_is_read_keeps table).accepted e) schedule);
-  done = λ z. let (e, (E, A, b)) = done_passing table schedule (number z) in (e, told_exact r (Answer.Done 0) (g ∙ passing_done table schedule e E A b));
+  done = λ z. let (e, (E, A, b)) = done_passing table schedule (number z) in (e, told_exact r (Ok 0) (g ∙ passing_done table schedule e E A b));
   one = λ q h. told_exact q r (h ∙ sym g);
 }
   where
@@ -61,4 +61,4 @@ schedules_exactly table schedule r g = record {
 pub plans_pass : PlansPass
 plans_pass table out r after g z q h =
     let d = done table out r after g z in
-    told_exact q (Answer.Done 0) (h ∙ passing_done table (take (told r).place after) d.accepted (plans.plan (table_in table)) d.passes d.front)
+    told_exact q (Ok 0) (h ∙ passing_done table (take (told r).place after) d.accepted (plans.plan (table_in table)) d.passes d.front)

@@ -2,10 +2,10 @@
 -- `inspect::check_schedule`, `machine::Machine` with new, load, step, read and write, `machine::lists`, and the C functions (export). Each function is
 -- named by the contract that its source cites (TableGives, GridGives, PlanGives, ListGives, CheckGives, Loads, StepGives, ..); each clause says what
 -- follows for whatever the function gave. proofs/Demands.antt proves them all. Assumes nothing.
-use Rattle.std.specs.Prelude.{ℕ, ◌≡◌, true, List}
+use Rattle.std.specs.Prelude.{ℕ, ◌≡◌, true, List, Result}
 use Rattle.rules.specs.Windows.{Table}
 use Rattle.rules.specs.Numbers.{told, all_done}
-use Rattle.rules.specs.declared.Answer.{Answer}
+use Rattle.rules.specs.declared.Refusal.{Refusal}
 use Rattle.theory.specs.Promises.{LiveWhenNeeded, HyperLeast, Latest, AnyRound, RefusedNothing, PlanOrder, TakesLowest, TwoEach, LongestSchedule}
 use Rattle.plan.specs.Gives.{PlanGives}
 use Rattle.lives.specs.declared.LiveValue.{LiveValue}
@@ -24,7 +24,7 @@ use Rattle.promises.specs.Runs.{AnyCalls, RunsAsPromised, LoadsExactly}
 use Rattle.promises.specs.FromC.{SameFromC}
 
 -- the answer is a refusal
-abbrev pub Refused : Answer → Type 0
+abbrev pub Refused : Result ℕ Refusal → Type 0
 Refused r = (told r).number ≡ all_done → ⊥
 
 -- 1. Every call ends with an answer, however bad what it is given: no function above has a `requires`, and the checker proves that each ends.
@@ -34,9 +34,9 @@ pub record Demand1 : Type 0 where
   pub tables : TablesFirst
   -- and it changes nothing lent:
   -- not the buffer to plan into,
-  pub plan : (table out : List ℕ) (r : Answer) (after : List ℕ) → PlanGives table out r after → Refused r → after ≡ out
+  pub plan : (table out : List ℕ) (r : Result ℕ Refusal) (after : List ℕ) → PlanGives table out r after → Refused r → after ≡ out
   -- not the list of records,
-  pub list : (table : List ℕ) (signal : ℕ) (list : List LiveValue) (r : Answer) (after : List LiveValue) → ListGives table signal list r after → Refused r → after ≡ list
+  pub list : (table : List ℕ) (signal : ℕ) (list : List LiveValue) (r : Result ℕ Refusal) (after : List LiveValue) → ListGives table signal list r after → Refused r → after ≡ list
   -- not the machine that was running before a loading,
   pub load : (m : Machine) (table schedule : List ℕ) (r : Stepped) → Loads m table schedule r → Refused r.answer → r.machine ≡ m
   -- and not the machine that is stepped, read or written, by value, over its lists or from C; a refused read has word 0. 25 is given exactly on states

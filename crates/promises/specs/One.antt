@@ -1,16 +1,13 @@
 -- Document 01, "How tight the contracts are": of every public function, two results, with the final contents of what is lent, that meet its contract
 -- are equal. Each clause stands under the function's name and has the very contract that the function's `ensures` cites; `.ci/surface` holds both against
 -- the sources. proofs/One.antt proves it. Assumes nothing.
-use Rattle.std.specs.Prelude.{ℕ, ◌≡◌, List}
+use Rattle.std.specs.Prelude.{ℕ, ◌≡◌, List, Option, Result}
 use Rattle.std.specs.Borrow.{Bor}
 use Rattle.rules.specs.Reading.{Grid}
+use Rattle.rules.specs.declared.Task.{Task}
 use Rattle.rules.specs.declared.Access.{Access}
-use Rattle.rules.specs.declared.Answer.{Answer}
+use Rattle.rules.specs.declared.Refusal.{Refusal}
 use Rattle.records.specs.declared.Cursor.{Cursor}
-use Rattle.records.specs.declared.TaskStep.{TaskStep}
-use Rattle.records.specs.declared.SignalStep.{SignalStep}
-use Rattle.records.specs.declared.AccessStep.{AccessStep}
-use Rattle.records.specs.declared.Ending.{Ending}
 use Rattle.records.specs.Gives.{TaskGives, SignalGives, AccessGives, EndGives}
 use Rattle.reader.specs.declared.Reader.{Reader}
 use Rattle.reader.specs.Gives.{ReaderGives}
@@ -40,15 +37,15 @@ pub record Determined : Type 1 where
   -- table::read_table
   pub read_table : (bytes : List ℕ) → One (λ (r : TableRead). TableGives bytes r)
   -- plan::plan
-  pub plan : (table out : List ℕ) → One (λ (x : Answer × List ℕ). PlanGives table out x.0 x.1)
+  pub plan : (table out : List ℕ) → One (λ (x : Result ℕ Refusal × List ℕ). PlanGives table out x.0 x.1)
   -- text::put_listing: where the page ends, what is left in the lent schedule and on the page
   pub put_listing : (table schedule out : List ℕ) (at : ℕ) → One (λ (x : ℕ × List ℕ × List ℕ). ListingGives table schedule out at x.0 x.1 x.2)
   -- lives::live_list
-  pub live_list : (table : List ℕ) (signal : ℕ) (list : List LiveValue) → One (λ (x : Answer × List LiveValue). ListGives table signal list x.0 x.1)
+  pub live_list : (table : List ℕ) (signal : ℕ) (list : List LiveValue) → One (λ (x : Result ℕ Refusal × List LiveValue). ListGives table signal list x.0 x.1)
   -- lives::lent
   pub lent : (table : List ℕ) (signal room : ℕ) (before : LiveValue) → One (λ (r : Lived). LentGives table signal room before r)
   -- inspect::check_schedule
-  pub check_schedule : (table schedule : List ℕ) → One (λ (r : Answer). CheckGives table schedule r)
+  pub check_schedule : (table schedule : List ℕ) → One (λ (r : Result ℕ Refusal). CheckGives table schedule r)
   -- machine::Machine::new
   pub new : One (λ (r : Machine). NewGives r)
   -- machine::Machine::load
@@ -60,27 +57,27 @@ pub record Determined : Type 1 where
   -- machine::Machine::write
   pub write : (m : Machine) (task signal word : ℕ) → One (λ (r : Stepped). WriteGives m task signal word r)
   -- machine::lists::load
-  pub lists_load : (n d s table schedule : List ℕ) → One (λ (x : Answer × List ℕ × List ℕ × List ℕ). ListsLoadGives n d s table schedule x.0 x.1 x.2 x.3)
+  pub lists_load : (n d s table schedule : List ℕ) → One (λ (x : Result ℕ Refusal × List ℕ × List ℕ × List ℕ). ListsLoadGives n d s table schedule x.0 x.1 x.2 x.3)
   -- machine::lists::step
-  pub lists_step : (n d s : List ℕ) → One (λ (x : Answer × List ℕ × List ℕ). ListsStepGives n d s x.0 x.1 x.2)
+  pub lists_step : (n d s : List ℕ) → One (λ (x : Result ℕ Refusal × List ℕ × List ℕ). ListsStepGives n d s x.0 x.1 x.2)
   -- machine::lists::read
   pub lists_read : (n s : List ℕ) (task signal : ℕ) → One (λ (r : WordRead). ListsReadGives n s task signal r)
   -- machine::lists::write
-  pub lists_write : (n s : List ℕ) (task signal word : ℕ) → One (λ (x : Answer × List ℕ). ListsWriteGives n s task signal word x.0 x.1)
+  pub lists_write : (n s : List ℕ) (task signal word : ℕ) → One (λ (x : Result ℕ Refusal × List ℕ). ListsWriteGives n s task signal word x.0 x.1)
   -- machine::lists::open_instance
   pub lists_open : (n : List ℕ) (task : ℕ) → One (λ (r : InstanceRead). ListsOpenGives n task r)
   -- answers::number
-  pub number : (a : Answer) → One (λ (n : ℕ). NumberGives a n)
+  pub number : (a : Result ℕ Refusal) → One (λ (n : ℕ). NumberGives a n)
   -- answers::place
-  pub place : (a : Answer) → One (λ (n : ℕ). PlaceGives a n)
+  pub place : (a : Result ℕ Refusal) → One (λ (n : ℕ). PlaceGives a n)
   -- records::Cursor::task, reader::next_task, reader::task_at
-  pub task : (bytes : List ℕ) (count : ℕ) (place : Cursor) → One (λ (r : TaskStep). TaskGives bytes count place r)
+  pub task : (bytes : List ℕ) (count : ℕ) (place : Cursor) → One (λ (r : Result (Option (Task × Cursor)) Refusal). TaskGives bytes count place r)
   -- records::Cursor::signal, reader::next_signal, reader::signal_at
-  pub signal : (bytes : List ℕ) (count : ℕ) (place : Cursor) → One (λ (r : SignalStep). SignalGives bytes count place r)
+  pub signal : (bytes : List ℕ) (count : ℕ) (place : Cursor) → One (λ (r : Result (Option (ℕ × Cursor)) Refusal). SignalGives bytes count place r)
   -- records::Cursor::access, reader::next_access, reader::access_at
-  pub access : (bytes : List ℕ) (tasks signals count : ℕ) (last : Access) (place : Cursor) → One (λ (r : AccessStep). AccessGives bytes tasks signals count last place r)
+  pub access : (bytes : List ℕ) (tasks signals count : ℕ) (last : Access) (place : Cursor) → One (λ (r : Result (Option (Access × Cursor)) Refusal). AccessGives bytes tasks signals count last place r)
   -- records::Cursor::end, reader::next_end, reader::end_at
-  pub end : (bytes : List ℕ) (place : Cursor) → One (λ (r : Ending). EndGives bytes place r)
+  pub end : (bytes : List ℕ) (place : Cursor) → One (λ (r : Result Cursor Refusal). EndGives bytes place r)
   -- reader::new, reader::moved, reader::placed
   pub reader : (table : Bor (List ℕ)) (place : Cursor) → One (λ (r : Reader). ReaderGives table place r)
   -- sections::grid::read_grid

@@ -1,17 +1,17 @@
 -- Demand 2, last sentence, about `plan::plan`: its plan passes the check, no passing schedule gives any signal fewer elements, and too many elements
 -- is its refusal only where no schedule passes. proofs/Plans.antt proves it. Assumes nothing.
-use Rattle.std.specs.Prelude.{ℕ, ◌≤◌, ◌<◌, ◌≡◌, List, ◌++◌, ◌↔◌, ◌⊎◌, length, drop}
+use Rattle.std.specs.Prelude.{ℕ, ◌≤◌, ◌<◌, ◌≡◌, List, ◌++◌, ◌↔◌, ◌⊎◌, length, drop, Result}
 use Rattle.rules.specs.Schedule.{Schedule, base, Passes}
 use Rattle.rules.specs.Plan as plans
 use Rattle.rules.specs.Bytes.{bytes_of, schedule_length}
 use Rattle.rules.specs.Numbers.{tell, told, all_done, many_elements, many_in_all}
 use Rattle.rules.specs.Answers.{check_says}
 use Rattle.rules.specs.Reading.{table_in, read_says}
-use Rattle.rules.specs.declared.Answer.{Answer}
+use Rattle.rules.specs.declared.Refusal.{Refusal}
 use Rattle.theory.specs.First.{FirstBrokenElse, BrokenPlan, plan_rule_told, plan_rules}
 use Rattle.plan.specs.Gives.{PlanGives}
 
-pub record PlansRightly (table out : List ℕ) (r : Answer) (after : List ℕ) : Type 0 where
+pub record PlansRightly (table out : List ℕ) (r : Result ℕ Refusal) (after : List ℕ) : Type 0 where
   -- A table that is refused is refused with its own number and place.
   pub table_refused : ((read_says table).number ≡ all_done → ⊥) → told r ≡ read_says table
   -- Of an accepted table: planning is done exactly where some schedule passes, given room in the buffer.
@@ -31,8 +31,8 @@ pub record PlansRightly (table out : List ℕ) (r : Answer) (after : List ℕ) :
   -- A refusal changes nothing.
   pub unchanged : ((told r).number ≡ all_done → ⊥) → after ≡ out
   -- No other answer, and no other contents of the buffer, meet the contract.
-  pub one : (q : Answer) (b : List ℕ) → PlanGives table out q b → (q ≡ r) × (b ≡ after)
+  pub one : (q : Result ℕ Refusal) (b : List ℕ) → PlanGives table out q b → (q ≡ r) × (b ≡ after)
 
 -- So it is for any bytes and any buffer.
 abbrev pub AllPlansRightly : Type 0
-AllPlansRightly = (table out : List ℕ) (r : Answer) (after : List ℕ) → PlanGives table out r after → PlansRightly table out r after
+AllPlansRightly = (table out : List ℕ) (r : Result ℕ Refusal) (after : List ℕ) → PlanGives table out r after → PlansRightly table out r after

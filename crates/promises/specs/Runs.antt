@@ -1,6 +1,6 @@
 -- Demand 3, about `machine::Machine`, `machine::lists` and the C functions over a machine's lists, in any mixture: after loading any table with any schedule that passes, no permitted read or write inside its window is refused,
 -- and each read gives the value that its signal had when the reader's window opened. proofs/Runs.antt proves it. Assumes nothing.
-use Rattle.std.specs.Prelude.{ℕ, ◌≡◌, true, false, List, [], ◌∷◌, map, ◌↔◌, ◌⊎◌}
+use Rattle.std.specs.Prelude.{ℕ, ◌≡◌, true, false, List, [], ◌∷◌, map, ◌↔◌, ◌⊎◌, Result, Ok}
 use Rattle.rules.specs.Windows.{Table, opens, is_open}
 use Rattle.rules.specs.Schedule.{Schedule, Passes}
 use Rattle.rules.specs.Numbers.{tell, told, all_done, no_access, outside, unfit}
@@ -9,7 +9,7 @@ use Rattle.rules.specs.Reading.{table_in, read_says}
 use Rattle.rules.specs.Meaning.{word, Call, step, read, write, now, value_at}
 use Rattle.rules.specs.Stores.{word_in}
 use Rattle.rules.specs.Loading.{Request, load, call, accepts, Reply, Story, untold, since, telling, meant_replies}
-use Rattle.rules.specs.declared.Answer.{Answer}
+use Rattle.rules.specs.declared.Refusal.{Refusal}
 use Rattle.theory.specs.Promises.{Permitted}
 use Rattle.machine.specs.declared.Machine.{Machine}
 use Rattle.machine.specs.declared.Stepped.{Stepped}
@@ -31,11 +31,11 @@ pub data Gives (m : Machine) : Request → Said → Machine → Type 0 where
   reads : (task signal : ℕ) (r : WordRead) → ReadGives m task signal r → Gives m (call (read task signal)) (said (told r.answer) r.word) m
   writes : (task signal w : ℕ) (r : Stepped) → WriteGives m task signal w r → Gives m (call (write task signal (word w))) (said (told r.answer) 0) r.machine
   -- over m's lists, in place: machine::lists
-  lists_loads : (table schedule : List ℕ) (r : Answer) (n d s : List ℕ) → ListsLoadGives m.numbers m.defaults m.store table schedule r n d s
+  lists_loads : (table schedule : List ℕ) (r : Result ℕ Refusal) (n d s : List ℕ) → ListsLoadGives m.numbers m.defaults m.store table schedule r n d s
       → Gives m (load table schedule) (said (told r) 0) (keeping n d s)
-  lists_steps : (r : Answer) (n s : List ℕ) → ListsStepGives m.numbers m.defaults m.store r n s → Gives m (call step) (said (told r) 0) (keeping n m.defaults s)
+  lists_steps : (r : Result ℕ Refusal) (n s : List ℕ) → ListsStepGives m.numbers m.defaults m.store r n s → Gives m (call step) (said (told r) 0) (keeping n m.defaults s)
   lists_reads : (task signal : ℕ) (r : WordRead) → ListsReadGives m.numbers m.store task signal r → Gives m (call (read task signal)) (said (told r.answer) r.word) m
-  lists_writes : (task signal w : ℕ) (r : Answer) (s : List ℕ) → ListsWriteGives m.numbers m.store task signal w r s
+  lists_writes : (task signal w : ℕ) (r : Result ℕ Refusal) (s : List ℕ) → ListsWriteGives m.numbers m.store task signal w r s
       → Gives m (call (write task signal (word w))) (said (told r) 0) (keeping m.numbers m.defaults s)
   -- from C: press_lists_load, press_lists_step, press_lists_read and press_lists_write
   press_loads : (table schedule : List ℕ) (number place : ℕ) (n d s : List ℕ) → PressLoadGives m.numbers m.defaults m.store table schedule number place n d s
@@ -110,7 +110,7 @@ pub record RunsAsPromised : Type 0 where
 -- A loading is accepted exactly where the table is, and the schedule's bytes are those of one that passes; a refused one leaves the machine as it was.
 pub record LoadedExactly (m : Machine) (table schedule : List ℕ) (r : Stepped) : Type 0 where
   pub accepted : ((told r.answer).number ≡ all_done) ↔ (((read_says table).number ≡ all_done) × ((E : Schedule) × Passes (table_in table) E × (schedule ≡ bytes_of (table_in table) E)))
-  pub done : (told r.answer).number ≡ all_done → r.answer ≡ Answer.Done 0
+  pub done : (told r.answer).number ≡ all_done → r.answer ≡ Ok 0
   pub refused : ((told r.answer).number ≡ all_done → ⊥) → r.machine ≡ m
   -- No other result meets the contract.
   pub one : (q : Stepped) → Loads m table schedule q → q ≡ r

@@ -1,12 +1,13 @@
 // The reader: one value that keeps the lent table bytes and its own place in them. The methods of the place do the work;
 // the functions over the reader are thin, and those of plain parameters serve the sections and every other caller.
+// The calls for a task, a signal and an access stay three: a public function takes no type of its caller's choice (`.ci/surface`).
 #![tactic(auto)]
 
 ghost use Rattle.records.specs.Gives.{TaskGives, SignalGives, AccessGives, EndGives};
 ghost use Rattle.reader.specs.Gives.{ReaderGives};
 
-use records::{AccessStep, Cursor, Ending, SignalStep, TaskStep};
-use rules::Access;
+use records::{Cursor, Step};
+use rules::{Access, Refusal, Task};
 
 #[derive(Clone, Copy)]
 pub struct Reader<'a> {
@@ -33,14 +34,14 @@ pub fn moved<'a>(reader: Reader<'a>, place: Cursor) -> Reader<'a>
 }
 
 // Asked for the next task, after `count` tasks.
-pub fn next_task<'a>(reader: Reader<'a>, count: usize) -> TaskStep
+pub fn next_task<'a>(reader: Reader<'a>, count: usize) -> Step<Task>
     ensures { TaskGives reader.entry.table.now count reader.entry.place result }
 {
     reader.place.task(reader.table, count)
 }
 
 // Asked for the next signal, after `count` signals.
-pub fn next_signal<'a>(reader: Reader<'a>, count: usize) -> SignalStep
+pub fn next_signal<'a>(reader: Reader<'a>, count: usize) -> Step<u32>
     ensures { SignalGives reader.entry.table.now count reader.entry.place result }
 {
     reader.place.signal(reader.table, count)
@@ -53,7 +54,7 @@ pub fn next_access<'a>(
     signals: usize,
     count: usize,
     last: Access,
-) -> AccessStep
+) -> Step<Access>
     ensures { AccessGives reader.entry.table.now tasks signals count last reader.entry.place result }
 {
     reader
@@ -62,7 +63,7 @@ pub fn next_access<'a>(
 }
 
 // Asked for the end.
-pub fn next_end<'a>(reader: Reader<'a>) -> Ending
+pub fn next_end<'a>(reader: Reader<'a>) -> Result<Cursor, Refusal>
     ensures { EndGives reader.entry.table.now reader.entry.place result }
 {
     reader.place.end(reader.table)
@@ -76,14 +77,14 @@ pub fn placed<'a>(table: &'a [u8], place: Cursor) -> Reader<'a>
 }
 
 // The task at a place of the table: a reader is placed there and asked.
-pub fn task_at(table: &[u8], place: Cursor, count: usize) -> TaskStep
+pub fn task_at(table: &[u8], place: Cursor, count: usize) -> Step<Task>
     ensures { TaskGives table.now count place result }
 {
     next_task(placed(table, place), count)
 }
 
 // The signal there.
-pub fn signal_at(table: &[u8], place: Cursor, count: usize) -> SignalStep
+pub fn signal_at(table: &[u8], place: Cursor, count: usize) -> Step<u32>
     ensures { SignalGives table.now count place result }
 {
     next_signal(placed(table, place), count)
@@ -97,14 +98,14 @@ pub fn access_at(
     signals: usize,
     count: usize,
     last: Access,
-) -> AccessStep
+) -> Step<Access>
     ensures { AccessGives table.now tasks signals count last place result }
 {
     next_access(placed(table, place), tasks, signals, count, last)
 }
 
 // The end there.
-pub fn end_at(table: &[u8], place: Cursor) -> Ending
+pub fn end_at(table: &[u8], place: Cursor) -> Result<Cursor, Refusal>
     ensures { EndGives table.now place result }
 {
     next_end(placed(table, place))

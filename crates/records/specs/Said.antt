@@ -1,30 +1,18 @@
 -- What each case of the reader's answers says, in the definitions' terms: a record and the next place, another mark, or a number and its place.
 -- Assumes nothing.
-use Rattle.std.specs.Prelude.{ℕ}
+use Rattle.std.specs.Prelude.{Option, Some, None, Result, Ok, Err}
 use Rattle.rules.specs.Numbers.{told}
 use Rattle.rules.specs.Records.{Step, End}
-use Rattle.rules.specs.declared.Task.{Task}
-use Rattle.rules.specs.declared.Access.{Access}
-use Rattle.records.specs.declared.TaskStep.{TaskStep}
-use Rattle.records.specs.declared.SignalStep.{SignalStep}
-use Rattle.records.specs.declared.AccessStep.{AccessStep}
-use Rattle.records.specs.declared.Ending.{Ending}
+use Rattle.rules.specs.declared.Refusal.{Refusal}
+use Rattle.records.specs.declared.Cursor.{Cursor}
 
-abbrev pub task_said : TaskStep → Step Task
-task_said (TaskStep.Taken t c) = Step.taken t c.at
-task_said TaskStep.Other = Step.other
-task_said (TaskStep.Refused a) = Step.refused (told a)
+-- of a record of any kind
+abbrev pub step_said : {A : Type 0} → Result (Option (A × Cursor)) Refusal → Step A
+step_said (Ok (Some x)) = Step.taken x.0 x.1.at
+step_said (Ok None) = Step.other
+step_said (Err r) = Step.refused (told (Err r))
 
-abbrev pub signal_said : SignalStep → Step ℕ
-signal_said (SignalStep.Taken v c) = Step.taken v c.at
-signal_said SignalStep.Other = Step.other
-signal_said (SignalStep.Refused a) = Step.refused (told a)
-
-abbrev pub access_said : AccessStep → Step Access
-access_said (AccessStep.Taken x c) = Step.taken x c.at
-access_said AccessStep.Other = Step.other
-access_said (AccessStep.Refused a) = Step.refused (told a)
-
-abbrev pub end_said : Ending → End
-end_said (Ending.At c) = End.at c.at
-end_said (Ending.Refused a) = End.refused (told a)
+-- of a section's end, or the table's
+abbrev pub end_said : Result Cursor Refusal → End
+end_said (Ok c) = End.at c.at
+end_said (Err r) = End.refused (told (Err r))

@@ -2,14 +2,15 @@
 // Each method makes the paper's tests in the paper's order.
 #![tactic(auto)]
 
-ghost use Rattle.std.specs.Prelude.{◌≡◌, ◌+◌, ◌≤◌, length};
+ghost use Rattle.std.specs.Prelude.{◌≡◌, ◌+◌, ◌≤◌, ◌<◌, true, false, length, IfOk, IfErr, IfSome, IsNone};
+ghost use Rattle.rules.specs.Fields.{holds_at};
 ghost use Rattle.rules.specs.Table.{windowed};
 ghost use Rattle.rules.specs.Records.{task_in, right_at, access_in, key_of};
 ghost use Rattle.records.specs.Gives.{TaskGives, SignalGives, AccessGives, EndGives};
 
-use fields::{holds, marked, wide, word};
+use fields::{holds, marked, word};
 use rules::{
-    Access, Answer, EN, EN_BYTES, LONGEST, MOST_ACCESSES, MOST_SIGNALS, MOST_TASKS, RD, READ, SG,
+    Access, EN, EN_BYTES, LONGEST, MOST_ACCESSES, MOST_SIGNALS, MOST_TASKS, RD, READ, Refusal, SG,
     TK, Task, WR, WRITE,
 };
 
@@ -26,85 +27,44 @@ pub struct Cursor {
     pub at: usize,
 }
 
-#[derive(Clone, Copy)]
-pub enum TaskStep {
-    Taken(Task, Cursor),
-    Other,
-    Refused(Answer),
-}
-
-// A signal's record holds its default.
-#[derive(Clone, Copy)]
-pub enum SignalStep {
-    Taken(u32, Cursor),
-    Other,
-    Refused(Answer),
-}
-
-#[derive(Clone, Copy)]
-pub enum AccessStep {
-    Taken(Access, Cursor),
-    Other,
-    Refused(Answer),
-}
-
-// How a section ends: at the cursor of the next one, or refused.
-#[derive(Clone, Copy)]
-pub enum Ending {
-    At(Cursor),
-    Refused(Answer),
-}
+// What a place gives that is asked for a record of one kind: the record with the cursor moved on, nothing where another mark stands, or a refusal.
+pub type Step<T> = Result<Option<(T, Cursor)>, Refusal>;
 
 impl Cursor {
     // Asked for a task, after `count` tasks.
-    pub fn task(self, bytes: &[u8], count: usize) -> TaskStep
+    #[tactic(auto, unfolding(rules::specs::Records::task_at, rules::specs::Words::when))]
+    pub fn task(self, bytes: &[u8], count: usize) -> Step<Task>
         ensures { TaskGives bytes.now count self result }
     {
         let at = self.at;
         if !marked(bytes, at, TK) {
-            return TaskStep::Other;
+            return Ok(None);
         }
-        if !holds(bytes, at, TASK_BYTES) {
-            return TaskStep::Refused(Answer::TableCut(at));
-        }
-        if MOST_TASKS <= count {
-            return TaskStep::Refused(Answer::TooMany(at));
-        }
+        let next = self.past(bytes, TASK_BYTES)?;
+        self.one_more(count, MOST_TASKS)?;
         let task = task_in(bytes, at);
         if !window_fits(task) {
-            return TaskStep::Refused(Answer::BadField(at));
+            return Err(Refusal::BadField(at));
         }
-        TaskStep::Taken(
-            task,
-            Cursor {
-                at: at + TASK_BYTES,
-            },
-        )
+        Ok(Some((task, next)))
     }
 
-    // Asked for a signal, after `count` signals.
-    pub fn signal(self, bytes: &[u8], count: usize) -> SignalStep
+    // Asked for a signal, after `count` signals; its record holds its default.
+    #[tactic(auto, unfolding(rules::specs::Records::signal_at, rules::specs::Words::when))]
+    pub fn signal(self, bytes: &[u8], count: usize) -> Step<u32>
         ensures { SignalGives bytes.now count self result }
     {
         let at = self.at;
         if !marked(bytes, at, SG) {
-            return SignalStep::Other;
+            return Ok(None);
         }
-        if !holds(bytes, at, SIGNAL_BYTES) {
-            return SignalStep::Refused(Answer::TableCut(at));
-        }
-        if MOST_SIGNALS <= count {
-            return SignalStep::Refused(Answer::TooMany(at));
-        }
-        SignalStep::Taken(
-            word(bytes, at + 2),
-            Cursor {
-                at: at + SIGNAL_BYTES,
-            },
-        )
+        let next = self.past(bytes, SIGNAL_BYTES)?;
+        self.one_more(count, MOST_SIGNALS)?;
+        Ok(Some((word(bytes, at + 2), next)))
     }
 
     // Asked for an access to one of `tasks` tasks and `signals` signals, after `count` accesses that `last` is the last of.
+    #[tactic(auto, unfolding(rules::specs::Records::access_at, rules::specs::Records::access_in, rules::specs::Words::when))]
     pub fn access(
         self,
         bytes: &[u8],
@@ -112,58 +72,66 @@ impl Cursor {
         signals: usize,
         count: usize,
         last: Access,
-    ) -> AccessStep
+    ) -> Step<Access>
         ensures { AccessGives bytes.now tasks signals count last self result }
     {
         let at = self.at;
-        let right = right_at(bytes, at);
-        if right == 0 {
-            return AccessStep::Other;
-        }
-        if !holds(bytes, at, ACCESS_BYTES) {
-            return AccessStep::Refused(Answer::TableCut(at));
-        }
-        if MOST_ACCESSES <= count {
-            return AccessStep::Refused(Answer::TooMany(at));
-        }
+        let Some(right) = right_at(bytes, at) else {
+            return Ok(None);
+        };
+        let next = self.past(bytes, ACCESS_BYTES)?;
+        self.one_more(count, MOST_ACCESSES)?;
         let access = access_in(bytes, at, right);
-        if tasks <= wide(access.task) {
-            return AccessStep::Refused(Answer::BadField(at));
-        }
-        if signals <= wide(access.signal) {
-            return AccessStep::Refused(Answer::BadField(at));
+        if tasks <= usize::from(access.task) || signals <= usize::from(access.signal) {
+            return Err(Refusal::BadField(at));
         }
         if key(access) <= key(last) {
-            return AccessStep::Refused(Answer::NotAfter(at));
+            return Err(Refusal::NotAfter(at));
         }
-        AccessStep::Taken(
-            access,
-            Cursor {
-                at: at + ACCESS_BYTES,
-            },
-        )
+        Ok(Some((access, next)))
     }
 
     // Asked for the end: a mark that no section took is unknown or out of order.
-    pub fn end(self, bytes: &[u8]) -> Ending
+    #[tactic(auto, unfolding(rules::specs::Records::end_at, rules::specs::Words::when))]
+    pub fn end(self, bytes: &[u8]) -> Result<Cursor, Refusal>
         ensures { EndGives bytes.now self result }
     {
-        let at = self.at;
-        if !holds(bytes, at, EN_BYTES) {
-            return Ending::Refused(Answer::TableCut(at));
+        let next = self.past(bytes, EN_BYTES)?;
+        if !marked(bytes, self.at, EN) {
+            return Err(Refusal::BadMark(self.at));
         }
-        if !marked(bytes, at, EN) {
-            return Ending::Refused(Answer::BadMark(at));
+        if next.at < bytes.len() {
+            return Err(Refusal::AfterEnd(next.at));
         }
-        let after = at + EN_BYTES;
-        if after < bytes.len() {
-            return Ending::Refused(Answer::AfterEnd(after));
+        Ok(next)
+    }
+
+    // The cursor past a record of `n` bytes, which must stand here whole.
+    #[tactic(auto, unfolding(rules::specs::Fields::holds_at))]
+    fn past(self, bytes: &[u8], n: usize) -> Result<Cursor, Refusal>
+        ensures whole { IfOk result (λ next. (holds_at bytes.now self.at n ≡ true) × (self.at + n ≤ length bytes.now) × (next ≡ record { at = self.at + n })) }
+        ensures cut { IfErr result (λ refusal. (holds_at bytes.now self.at n ≡ false) × (refusal ≡ Refusal.TableCut self.at)) }
+    {
+        if !holds(bytes, self.at, n) {
+            return Err(Refusal::TableCut(self.at));
         }
-        Ending::At(Cursor { at: after })
+        Ok(Cursor { at: self.at + n })
+    }
+
+    // There is room for one record more after `count` of at most `most`.
+    fn one_more(self, count: usize, most: usize) -> Result<(), Refusal>
+        ensures room { IfOk result (λ _. count < most) }
+        ensures full { IfErr result (λ refusal. (most ≤ count) × (refusal ≡ Refusal.TooMany self.at)) }
+    {
+        if most <= count {
+            return Err(Refusal::TooMany(self.at));
+        }
+        Ok(())
     }
 }
 
 // The fields of a task whose whole record stands at `at`.
+#[tactic(auto, unfolding(rules::specs::Records::task_in))]
 fn task_in(bytes: &[u8], at: usize) -> Task
     requires { at + 14 ≤ length bytes.now }
     ensures { result ≡ task_in bytes.now at }
@@ -176,32 +144,30 @@ fn task_in(bytes: &[u8], at: usize) -> Task
 }
 
 // A window that is not empty ends within its period, so that the period is at least 1 too.
+#[tactic(auto, unfolding(rules::specs::Table::windowed))]
 fn window_fits(task: Task) -> bool
     ensures { result ≡ windowed task.period task.start task.end }
 {
-    if task.end <= task.start {
-        return false;
-    }
-    if task.period < task.end {
-        return false;
-    }
-    task.period <= LONGEST
+    (task.start < task.end) & (task.end <= task.period) & (task.period <= LONGEST)
 }
 
-// The right that a mark gives, 0 where neither RD nor WR stands.
-fn right_at(bytes: &[u8], at: usize) -> u8
-    ensures { result ≡ right_at bytes.now at }
+// The right that a mark gives, none where neither RD nor WR stands. It stays the number that `Access` keeps: a caller's `last` may have any.
+#[tactic(auto, unfolding(rules::specs::Records::right_at, rules::specs::Words::when))]
+fn right_at(bytes: &[u8], at: usize) -> Option<u8>
+    ensures some { IfSome result (λ right. (right ≡ right_at bytes.now at) × (0 < right)) }
+    ensures none { IsNone result → right_at bytes.now at ≡ 0 }
 {
     if marked(bytes, at, RD) {
-        return READ;
+        return Some(READ);
     }
     if marked(bytes, at, WR) {
-        return WRITE;
+        return Some(WRITE);
     }
-    0
+    None
 }
 
 // The fields of an access whose whole record stands at `at`, with the right that its mark gives.
+#[tactic(auto, unfolding(rules::specs::Records::access_in))]
 fn access_in(bytes: &[u8], at: usize, right: u8) -> Access
     requires { (at + 4 ≤ length bytes.now) × (right ≡ right_at bytes.now at) }
     ensures { result ≡ access_in bytes.now at }
@@ -213,9 +179,10 @@ fn access_in(bytes: &[u8], at: usize, right: u8) -> Access
     }
 }
 
-// One number to compare: it rises by task, then signal, then RD before WR.
+// One number to compare: it rises by task, then signal, then RD before WR. It is no derived order of the fields: `last` may have a right above 3,
+// and `key_of` in rules/specs/Records.antt compares this sum.
 fn key(access: Access) -> usize
     ensures { result ≡ key_of access }
 {
-    (wide(access.task) * 256 + wide(access.signal)) * 4 + wide(access.right)
+    (usize::from(access.task) * 256 + usize::from(access.signal)) * 4 + usize::from(access.right)
 }

@@ -1,4 +1,5 @@
-// What the bench keeps from line to line, beside the buffers that `main` lends.
+// What the bench keeps from line to line.
+use console::page::Page;
 use machine::Machine;
 
 pub const LONGEST: usize = 131200;
@@ -12,15 +13,12 @@ pub const PIECE: usize = 65536;
 // No answer is longer than half of it: a listing has some 100,000 characters.
 pub const OUTPUT: usize = 262144;
 
-#[derive(Clone, Copy)]
-pub struct Bench {
-    // Characters of the line so far.
-    pub held: usize,
-    // Bytes of the kept table.
-    pub kept: usize,
-    // Bytes of output not written yet.
-    pub waiting: usize,
-    // The input is at its end.
-    pub ended: bool,
+#[derive(Drop)]
+pub struct Bench<'a> {
+    pub kept: Page<'a>,
+    // What `plan` plans into, and where a schedule is held.
+    pub lent: &'a mut [u8],
+    // Output not written yet.
+    pub out: Page<'a>,
     pub machine: Machine,
 }

@@ -10,27 +10,42 @@ mod living;
 mod planning;
 mod running;
 mod tell;
-mod turns;
 
-use bench::{LONGEST, MOST_BYTES, OUTPUT, PIECE};
+use bench::{Bench, LONGEST, MOST_BYTES, OUTPUT, PIECE};
+use console::page::Page;
+use machine::Machine;
 use std::io;
 
 fn main(rt: HostRuntime) -> io::Result<()> {
     let mut piece = [0u8; PIECE];
-    // One byte more than the longest line, so that a full buffer is a line that is too long.
+    // One byte more than the longest line, so that a full page is a line that is too long.
     let mut line = [0u8; LONGEST + 1];
-    // The kept table.
     let mut kept = [0u8; MOST_BYTES];
-    // What `plan` plans into, and where a schedule is held.
     let mut lent = [0u8; MOST_BYTES];
     let mut out = [0u8; OUTPUT];
+    let kept = Page {
+        bytes: &mut kept,
+        used: 0,
+    };
+    let out = Page {
+        bytes: &mut out,
+        used: 0,
+    };
+    let mut bench = Bench {
+        kept,
+        lent: &mut lent,
+        out,
+        machine: Machine::new(),
+    };
+    let mut line = Page {
+        bytes: &mut line,
+        used: 0,
+    };
     input::run(
         &mut rt.stdin(),
         &mut rt.stdout(),
         &mut piece,
         &mut line,
-        &mut kept,
-        &mut lent,
-        &mut out,
+        &mut bench,
     )
 }

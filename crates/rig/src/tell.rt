@@ -1,60 +1,53 @@
 // What every answer is made of.
-ghost use Rattle.std.specs.Prelude.{◌≡◌};
+ghost use Rattle.std.specs.Prelude.{[], ◌∷◌};
 ghost use Rattle.rules.specs.Numbers.{told};
-ghost use Rattle.console.specs.Page.{page, put_one, put_all};
+ghost use Rattle.console.specs.Shown.{Puts};
 ghost use Rattle.rig.specs.Tell.{line_feed, number_and_place, bad_line};
 
-use crate::bench::Bench;
-use console::page::{put, put_all, put_decimal};
+use console::page::Page;
 use console::words::SPACE;
 use rules::Answer;
 
 pub const LINE_FEED: u8 = b'\n';
 
-const BAD_LINE: [u8; 9] = *b"bad line\n";
+const BAD_LINE: &[u8] = b"bad line\n";
 
 // Number and place.
-pub(crate) fn put_answer(out: &mut [u8], at: usize, answer: Answer) -> usize
-    ensures { page out.new result ≡ put_all (number_and_place (told answer)) (page out.old at) }
+pub(crate) fn put_answer(page: &mut Page, answer: Answer)
+    ensures { Puts (number_and_place (told answer)) page.old page.new }
 {
-    let number = put_decimal(out, at, answers::number(answer) as u64);
-    let spaced = put(out, number, SPACE);
-    put_decimal(out, spaced, answers::place(answer) as u64)
+    page.put_decimal(u64::from(answers::number(answer)));
+    page.put(SPACE);
+    page.put_decimal(answers::place(answer) as u64);
 }
 
-pub(crate) fn end_of_answer(out: &mut [u8], at: usize) -> usize
-    ensures { page out.new result ≡ put_one line_feed (page out.old at) }
+pub(crate) fn end_of_answer(page: &mut Page)
+    ensures { Puts (line_feed ∷ []) page.old page.new }
 {
-    put(out, at, LINE_FEED)
+    page.put(LINE_FEED);
 }
 
 // An answer that is number and place alone.
-pub(crate) fn tell(out: &mut [u8], answer: Answer, bench: Bench) -> Bench {
-    let mut after = bench;
-    let told = put_answer(out, bench.waiting, answer);
-    after.waiting = end_of_answer(out, told);
-    after
+pub(crate) fn tell(page: &mut Page, answer: Answer) {
+    put_answer(page, answer);
+    end_of_answer(page);
 }
 
 // One number more, after what separates it from the one before.
-pub(crate) fn put_part(out: &mut [u8], at: usize, mark: u8, n: u64) -> usize {
-    let marked = put(out, at, mark);
-    put_decimal(out, marked, n)
+pub(crate) fn put_part(page: &mut Page, mark: u8, n: u64) {
+    page.put(mark);
+    page.put_decimal(n);
 }
 
 // Number, place and one number more.
-pub(crate) fn tell_with(out: &mut [u8], answer: Answer, more: u64, bench: Bench) -> Bench {
-    let mut after = bench;
-    let told = put_answer(out, bench.waiting, answer);
-    let shown = put_part(out, told, SPACE, more);
-    after.waiting = end_of_answer(out, shown);
-    after
+pub(crate) fn tell_with(page: &mut Page, answer: Answer, more: u64) {
+    put_answer(page, answer);
+    put_part(page, SPACE, more);
+    end_of_answer(page);
 }
 
-pub(crate) fn bad_line(out: &mut [u8], bench: Bench) -> Bench
-    ensures { page out.new result.waiting ≡ put_all bad_line (page out.old bench.waiting) }
+pub(crate) fn bad_line(page: &mut Page)
+    ensures { Puts bad_line page.old page.new }
 {
-    let mut after = bench;
-    after.waiting = put_all(out, bench.waiting, &BAD_LINE);
-    after
+    page.put_all(BAD_LINE);
 }

@@ -1,12 +1,13 @@
 -- One record put: its stores are one run of bytes, and it is one step of the walk.
-use mathlib.Core.Path.{◌≡◌, refl, ap, ◌∙◌}
+use mathlib.Core.Path.{◌≡◌, refl, sym, ap, ◌∙◌}
 use mathlib.Core.Logic.{⊎_elim}
-use mathlib.Core.List.{List, [], ◌∷◌}
-use Prim.Native.Nat.{ℕ, zero, suc, ◌+◌, ◌*◌, ◌≤◌, ◌<◌}
+use mathlib.Core.List.{List, [], ◌∷◌, ◌++◌, append_assoc}
+use Prim.Native.Nat.{ℕ, zero, suc, ◌+◌, ◌*◌, ◌-◌, ◌≤◌, ◌<◌}
 use native.Mathlib.Numerals.{add-one}
 use native.Mathlib.Nat.{le_refl, eq-or-lt_of_le, le_of_suc-le-suc}
 use native.Mathlib.Omega.{arith}
-use lib.ListN.{length, get_or, length-set}
+use lib.ListN.{length, get_or, take, drop, length-set}
+use lib.Seq.{sets, sets-eq, drop-drop}
 use Rattle.rules.specs.Words.{total}
 use Rattle.rules.specs.Fields.{WI, RI}
 use Rattle.rules.specs.Bytes.{bf}
@@ -14,34 +15,24 @@ use Rattle.rules.specs.Reading.{Grid}
 use Rattle.form.specs.declared.sides.Side.{Side}
 use Rattle.form.specs.Records.{mark_of, use_of, users_of, users_below, instance_parts}
 use Rattle.form.specs.Form.{walked}
+use Rattle.form.proofs.Steps.{total_more, total_grows}
 use Rattle.schedule.specs.Writing.{Written, bf_put, use_put, put, uses_of, uses_below}
 
--- ---- places after a place, as a run of stores counts them
+-- ---- bytes copied to their place are a run of stores
 
-pub plus_two : (p : ℕ) → p + 2 ≡ suc (suc p)
-plus_two p = omega arith
-
-pub plus_three : (p : ℕ) → p + 3 ≡ suc (suc (suc p))
-plus_three p = omega arith
-
-pub plus_four : (p : ℕ) → p + 4 ≡ suc (suc (suc (suc p)))
-plus_four p = omega arith
-
-pub plus_five : (p : ℕ) → p + 5 ≡ suc (suc (suc (suc (suc p))))
-plus_five p = omega arith
-
-pub plus_six : (p : ℕ) → p + 6 ≡ suc (suc (suc (suc (suc (suc p)))))
-plus_six p = omega arith
+pub copied : (l run mid : List ℕ) (p : ℕ) → mid ≡ run → p + length run ≤ length l → take p l ++ (mid ++ drop (p + length run - p) (drop p l)) ≡ sets l p run
+copied l run mid p e h =
+    let n : p + (p + length run - p) ≡ p + length run = omega arith in
+    ap (λ (m : List ℕ). take p l ++ (m ++ drop (p + length run - p) (drop p l))) e
+    ∙ sym (append_assoc (take p l) run (drop (p + length run - p) (drop p l)))
+    ∙ ap (λ (r : List ℕ). take p l ++ run ++ r) (drop-drop (p + length run - p) p l ∙ ap (λ n. drop n l) n)
+    ∙ sym (sets-eq run l p h)
 
 -- ---- stores keep the length
 
 pub use_length : (l : List ℕ) (p : ℕ) (mark : List ℕ) (s k i e : ℕ) {out : List ℕ} → out ≡ use_put l p mark s k i e → length out ≡ length l
 unfolding use_put
 use_length l p mark s k i e h = ap length h ∙ simp length-set
-
-pub bf_length : (l : List ℕ) (p s n : ℕ) {out : List ℕ} → out ≡ bf_put l p s n → length out ≡ length l
-unfolding bf_put
-bf_length l p s n h = ap length h ∙ simp length-set
 
 -- ---- steps of the walk
 
@@ -59,31 +50,12 @@ module _ (counts elements : List ℕ) where
 
 -- ---- how many
 
-total_more : (f : ℕ → ℕ) (n : ℕ) → total f (n + 1) ≡ total f n + f n
-unfolding total
-total_more f n = ap (total f) (add-one n)
-
-total_grows : (f : ℕ → ℕ) (n m : ℕ) → n ≤ m → total f n ≤ total f m
-unfolding total
-total_grows f n zero h = let e : n ≡ 0 = omega arith in rw e (le_refl 0)
-total_grows f n (suc m) h = ⊎_elim (λ e. rw e (le_refl (total f (suc m)))) (λ l. omega (arith, total_grows f n m (le_of_suc-le-suc l))) (eq-or-lt_of_le h)
-
 module _ (grid : Grid) (instances : List ℕ) where
-  -- after task k, and never more than all tasks have
-  pub users_more : (side : Side) (s k n : ℕ) → k < n
-      → (users_below grid instances side s (k + 1) ≡ users_below grid instances side s k + users_of grid instances side s k) × (users_below grid instances side s (k + 1) ≤ users_below grid instances side s n)
-  unfolding users_below
-  users_more side s k n l = (total_more (users_of grid instances side s) k, total_grows (users_of grid instances side s) (k + 1) n (omega arith))
-
   -- after signal s, and never more than all signals have
   pub uses_more : (tasks s n : ℕ) → s < n
       → (uses_below grid instances tasks (s + 1) ≡ uses_below grid instances tasks s + uses_of grid instances tasks s) × (uses_below grid instances tasks (s + 1) ≤ uses_below grid instances tasks n)
   unfolding uses_below
   uses_more tasks s n l = (total_more (uses_of grid instances tasks) s, total_grows (uses_of grid instances tasks) (s + 1) n (omega arith))
-
-  pub users_none : (side : Side) (s : ℕ) → users_below grid instances side s 0 ≡ 0
-  unfolding users_below total
-  users_none side s = refl
 
   pub uses_none : (tasks : ℕ) → uses_below grid instances tasks 0 ≡ 0
   unfolding uses_below total

@@ -20,7 +20,7 @@ use Rattle.form.specs.Records.{Instances, signal_bytes, parts_in}
 use Rattle.form.specs.Form.{walked}
 use Rattle.form.proofs.Running.{Within, parts_within}
 use Rattle.form.proofs.Tables.{length_is, parts_is}
-use Rattle.schedule.specs.Writing.{Room, uses_before, number_of, schedule_of, uses_of, uses_below, Written, bf_put, use_put, put}
+use Rattle.schedule.specs.Writing.{uses_before, number_of, schedule_of, uses_of, uses_below, Written, bf_put, use_put, put}
 
 -- a run of stores, seen from what stands before it and after it
 splice : (p r q : ℕ) (rec out ys : List ℕ) → length rec ≡ r → p + r ≤ q → q ≤ length out → take (p + r) (sets out p rec) ++ ys ++ drop q (sets out p rec) ≡ take p out ++ rec ++ ys ++ drop q out
@@ -149,23 +149,11 @@ module _ (tasks : Tasks) (S : Signals) (grid : Grid) (h : ℕ) (instances : List
   pub uses_is : uses_below grid instances tasks.count n ≡ table.uses (table_of tasks S grid)
   uses_is = omega (arith, length_by_uses, sums.length_is (table_of tasks S grid))
 
-  pub written_is : (counts elements out last : List ℕ) (w : Written) (p : ℕ) → schedule_length (table_of tasks S grid) ≤ length out
-      → w ≡ walked (put counts elements) (parts_in grid instances tasks.count n) (record { out = out; used = 0 }) → p ≡ 4 * n + 7 * uses_below grid instances tasks.count n → last ≡ sets w.out p EN
+  pub written_is : (counts elements out last : List ℕ) (w : Written) (p : ℕ) {g : Grid} {t : ℕ} → g ≡ grid → t ≡ tasks.count → schedule_length (table_of tasks S grid) ≤ length out
+      → w ≡ walked (put counts elements) (parts_in g instances t n) (record { out = out; used = 0 }) → p ≡ 4 * n + 7 * uses_below g instances t n → last ≡ sets w.out p EN
       → last ≡ bytes_of (table_of tasks S grid) (schedule_of (table_of tasks S grid) counts elements) ++ drop (schedule_length (table_of tasks S grid)) out
-  written_is counts elements out last w p l d z f =
-      let same = parts_is tasks S grid h instances e I n q in
+  written_is counts elements out last w p {g} {t} u v l d z f =
+      let same = ap₂ (λ g t. parts_in g instances t n) u v ∙ parts_is tasks S grid h instances e I n q in
       written (table_of tasks S grid) counts elements out last w p
-      (subst (λ xs. Within 0 xs S.count) same (subst (λ m. Within 0 (parts_in grid instances tasks.count n) m) (sym q) (parts_within grid instances tasks.count n)))
-      l (d ∙ ap (λ xs. walked (put counts elements) xs (record { out = out; used = 0 })) same) (omega (arith, length_by_uses)) f
-
--- ---- what an accepted table gives: only the number of its signals counts
-
-same_uses : (tasks : Tasks) (S R : Signals) (grid : Grid) → S.count ≡ R.count → table.uses (table_of tasks S grid) ≡ table.uses (table_of tasks R grid)
-unfolding table.uses table.accesses_of hyper
-same_uses tasks S R grid e =
-    ap (λ n. total (λ k. total (λ s. bit (reads_in grid s k) + bit (writes_in grid s k)) n * (lcm_all (λ j. (task_of tasks j).period) tasks.count / (task_of tasks k).period)) tasks.count) e
-
-pub room : (tasks : Tasks) (S : Signals) (grid : Grid) (signals n : ℕ) → S.count ≡ signals → table.uses (table_of tasks S grid) ≤ table.most_uses → schedule_length (table_of tasks S grid) ≤ n → Room tasks signals grid n
-room tasks S grid signals n q u l R e =
-    let same = same_uses tasks S R grid (q ∙ sym e) in
-    (omega arith, omega (arith, sums.length_is (table_of tasks S grid), sums.length_is (table_of tasks R grid)))
+      (subst (λ xs. Within 0 xs S.count) same (subst (λ m. Within 0 (parts_in g instances t n) m) (sym q) (parts_within g instances t n)))
+      l (d ∙ ap (λ xs. walked (put counts elements) xs (record { out = out; used = 0 })) same) (omega (arith, length_by_uses, z, ap₂ (λ g t. uses_below g instances t n) u v)) f

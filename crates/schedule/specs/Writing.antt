@@ -32,10 +32,6 @@ module _ (tab : Table) where
     reader = λ s k i. get_or elements (number_of (ri s k i)) 0;
   }
 
--- the table has no more uses than it may have, and the schedule fits so many bytes
-abbrev pub Room : Tasks → ℕ → Grid → ℕ → Type 0
-Room tasks signals grid n = (S : Signals) → S.count ≡ signals → (uses (table_of tasks S grid) ≤ most_uses) × (schedule_length (table_of tasks S grid) ≤ n)
-
 -- ---- as the code counts
 
 module _ (grid : Grid) (instances : List ℕ) (tasks : ℕ) where

@@ -1,3 +1,3 @@
+pub mod Few
 pub mod Sectioned
-pub mod Taken
 pub mod Windowed

@@ -8,15 +8,15 @@ use lib.Dec.{eqb}
 use lib.ListN.{length, length-set}
 use lib.Seq.{get_or-set_same, get_or-set_other}
 use borrow.Author.Tests.{eqb-true, eqb-false}
+use Rattle.rules.specs.Words.{when}
 use Rattle.rules.specs.Table.{most_tasks, windowed}
 use Rattle.rules.specs.Records.{task_at}
 use Rattle.rules.specs.Reading.{Section, no_task, no_tasks, put_task, task_of, tasks_in}
 use Rattle.rules.specs.declared.Task.{Task}
 use Rattle.rules.specs.declared.Tasks.{Tasks}
-use Rattle.sections.proofs.Sectioned.{kept}
-use Rattle.sections.proofs.Taken.{TaskTaken, task_taken}
-use Rattle.sections.specs.Said.{tasks_said}
-use Rattle.sections.specs.declared.TasksRead.{TasksRead}
+use Rattle.sections.proofs.Sectioned.{Only, only, kept}
+use Rattle.sections.specs.Said.{section_said}
+use Rattle.sections.specs.declared.section.SectionRead.{SectionRead}
 
 abbrev pub fits : Task → Bool
 fits t = windowed t.period t.start t.end
@@ -24,6 +24,15 @@ fits t = windowed t.period t.start t.end
 -- the window of each task that stands in the list fits its period
 abbrev pub Windowed : Tasks → Type 0
 Windowed b = (k : ℕ) → k < b.count → fits (task_of b k) ≡ true
+
+-- what a task that is taken has passed
+record TaskTaken (count : ℕ) (t : Task) : Type 0 where
+  pub few : count < most_tasks
+  pub window : windowed t.period t.start t.end ≡ true
+
+task_taken : (bytes : List ℕ) (count p : ℕ) → Only (TaskTaken count) (task_at bytes count p)
+unfolding task_at when
+task_taken bytes count p = grind arith
 
 record Fitting (b : Tasks) : Type 0 where
   pub room : length b.list ≡ most_tasks
@@ -48,11 +57,11 @@ put b t taken h = record {
 pub tasks_windowed : (bytes : List ℕ) → Windowed (tasks_in bytes).read
 unfolding tasks_in
 tasks_windowed bytes =
-    (kept Fitting (λ b. task_at bytes b.count) put_task (λ b p t q e h. put b t (task_taken bytes b.count p e) h)
+    (kept Fitting (λ b. task_at bytes b.count) put_task (λ b p h. only (λ t taken. put b t taken h) (task_at bytes b.count p) (task_taken bytes b.count p))
     (most_tasks + 1) no_tasks 0 (record { room = refl; windows = λ k l. absurd (omega (arith, l)) })
     ).windows
 
 -- ---- what a caller of `read_tasks` learns from its contract
 
-pub read_windowed : (bytes : List ℕ) (r : TasksRead) → tasks_said r ≡ tasks_in bytes → Windowed r.tasks
+pub read_windowed : (bytes : List ℕ) (r : SectionRead Tasks) → section_said r ≡ tasks_in bytes → Windowed r.read
 read_windowed bytes r e = rw (ap (λ (s : Section Tasks). s.read) e) (tasks_windowed bytes)

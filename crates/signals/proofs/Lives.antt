@@ -1,4 +1,5 @@
 -- The next publication and the end of a life that the passes find are those of rules.
+use Rattle.std.specs.Prelude.{Option, Some, None}
 use mathlib.Core.Path.{◌≡◌, refl, sym, ap, ◌∙◌}
 use mathlib.Core.Logic.{⊎_elim, ◌⊎◌, inl, inr}
 use mathlib.Core.Bool.{Bool, true}
@@ -18,14 +19,12 @@ use Rattle.theory.proofs.Tests.{holds, is, not_both}
 use Rattle.theory.proofs.Hyper.{divides}
 use Rattle.theory.proofs.Time.{closes_le}
 use Rattle.theory.proofs.Joins as joins
-use Rattle.windows.specs.declared.Found.{Found}
-use Rattle.windows.specs.declared.Found.TheVariants.{At, Nothing}
 use Rattle.windows.specs.Windowed.{AllWindowed}
 use Rattle.windows.specs.Forms.{next_closing, last_opened, task_in, IsLastOpened}
 use Rattle.windows.proofs.Windows.{branch, last_opened_lem, next_closing_lem}
 use Rattle.signals.specs.Pass.{pass}
 use Rattle.signals.specs.Forms.{next_of, reach_if, reach_of, reach_below, until_of}
-use Rattle.signals.proofs.Passes.{pass_law, below_suc}
+use Rattle.signals.proofs.Passes.{pass_none, pass_chosen, pass_other, pass_law, below_suc}
 use Rattle.signals.proofs.Standing.{Windows, fits_window, closes_in_order}
 
 -- ---- the next publication
@@ -106,13 +105,13 @@ module _ (tab : Table) (s from to : ℕ) where
   ends : {n u r : ℕ} → r ≡ u → Ends n u → Ends (suc n) r
   ends e = ⊎_elim (λ p. inl (e ∙ p)) (λ (k, j, l, w, a, b, p). inr (k, j, le_step l, w, a, b, p ∙ sym e))
 
-  one_reader : (n u : ℕ) → tab.reads s n ≡ true → Reach n u → (f : Found) → IsLastOpened tab n to f → Reach (suc n) (reach_if (task_in tab n) from u f)
-  one_reader n u w q Nothing l = record {
+  one_reader : (n u : ℕ) → tab.reads s n ≡ true → Reach n u → (f : Option ℕ) → IsLastOpened tab n to f → Reach (suc n) (reach_if (task_in tab n) from u f)
+  one_reader n u w q None l = record {
     past_to = q.past_to;
     past_all = below_suc (Past u) n q.past_all (λ w' j a b. omega (arith, l j));
     one = ends refl q.one;
   }
-  one_reader n u w q (At i) l =
+  one_reader n u w q (Some i) l =
       branch (Reach (suc n)) (ltb (opens tab n i) from)
       (λ b. record {
         past_to = q.past_to;
@@ -175,3 +174,5 @@ until_is tasks signals grid F v x =
     let c : ℕ = closing tab v in
     let n : ℕ = next_of tasks (writes_in grid s) (hyper tab) c in
     sym (until_value tab F v x n _ (next_is tasks signals grid F s c (signal_known tab F v x) (closing_within tab F v x)) (next_within tasks grid s (hyper tab) c (fits_window tab F) refl) (reach_found tab s c n (fits_window tab F)))
+
+pub ruleset lives = (pass_none, pass_chosen, pass_other, next_within, until_reached)

@@ -1,4 +1,5 @@
 -- The publication that one pass finds is the value that rules binds a reader to.
+use Rattle.std.specs.Prelude.{Option, Some, None}
 use mathlib.Core.Path.{◌≡◌, refl, sym, ap, ◌∙◌}
 use mathlib.Core.Logic.{⊎_elim, ◌⊎◌, inl, inr}
 use mathlib.Core.Bool.{true}
@@ -15,8 +16,6 @@ use Rattle.rules.specs.declared.Tasks.{Tasks}
 use Rattle.rules.specs.declared.Signals.{Signals}
 use Rattle.theory.proofs.Tests.{holds, is, not_both}
 use Rattle.theory.proofs.Joins.{bound_is, bound_first}
-use Rattle.windows.specs.declared.Found.{Found}
-use Rattle.windows.specs.declared.Found.TheVariants.{At, Nothing}
 use Rattle.windows.specs.Windowed.{Windowed}
 use Rattle.windows.specs.Forms.{last_closed, task_in, IsLastClosed}
 use Rattle.windows.proofs.Windows.{branch, windowed_is, last_closed_lem}
@@ -51,9 +50,9 @@ module _ (tab : Table) (s t : ℕ) where
   kept : {n : ℕ} {p : Publication} → Own n p → Own (suc n) p
   kept = ⊎_elim (λ e. inl e) (λ (k, i, h, w, c, e). inr (k, i, le_step h, w, c, e))
 
-  one_more : (n : ℕ) (p : Publication) → tab.writes s n ≡ true → Latest n p → (f : Found) → IsLastClosed tab n t f → Latest (suc n) (later_if (task_in tab n) n p f)
-  one_more n p w q Nothing l = record { own = kept q.own; last = below_suc (Last p) n q.last (λ w' j h. omega (arith, l j)) }
-  one_more n p w q (At i) l =
+  one_more : (n : ℕ) (p : Publication) → tab.writes s n ≡ true → Latest n p → (f : Option ℕ) → IsLastClosed tab n t f → Latest (suc n) (later_if (task_in tab n) n p f)
+  one_more n p w q None l = record { own = kept q.own; last = below_suc (Last p) n q.last (λ w' j h. omega (arith, l j)) }
+  one_more n p w q (Some i) l =
       branch (Latest (suc n)) (ltb p.tick (closes tab n i))
       (λ b. record {
         own = inr (n, i, le_refl (suc n), w, l.0, refl);

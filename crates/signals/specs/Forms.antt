@@ -1,5 +1,5 @@
 -- The closed forms that the code computes of one signal, for the tasks that `writes` and `reads` choose. Assumes nothing.
-use Rattle.std.specs.Prelude.{Bool, ℕ, ◌+◌, ◌*◌, max, ltb}
+use Rattle.std.specs.Prelude.{Option, Some, None, Bool, ℕ, ◌+◌, ◌*◌, max, ltb}
 use Rattle.rules.specs.Words.{when}
 use Rattle.rules.specs.Windows.{Table}
 use Rattle.rules.specs.Values.{Value, carried, closing}
@@ -7,8 +7,6 @@ use Rattle.rules.specs.Plan as plan
 use Rattle.rules.specs.Reading.{task_of}
 use Rattle.rules.specs.declared.Task.{Task}
 use Rattle.rules.specs.declared.Tasks.{Tasks}
-use Rattle.windows.specs.declared.Found.{Found}
-use Rattle.windows.specs.declared.Found.TheVariants.{At, Nothing}
 use Rattle.windows.specs.Forms.{last_closed, next_closing, last_opened}
 use Rattle.signals.specs.declared.Publication.{Publication}
 use Rattle.signals.specs.Pass.{pass}
@@ -22,9 +20,9 @@ abbrev pub nothing_yet : Publication
 nothing_yet = record { tick = 0; task = plan.task_of (carried 0); instance = plan.instance_of (carried 0) }
 
 -- the later of what was found so far and the closing of instance i of task number k
-abbrev pub later_if : Task → ℕ → Publication → Found → Publication
-later_if task k found (At i) = when (ltb found.tick (i * task.period + task.end)) (record { tick = i * task.period + task.end; task = k; instance = i }) found
-later_if task k found Nothing = found
+abbrev pub later_if : Task → ℕ → Publication → Option ℕ → Publication
+later_if task k found (Some i) = when (ltb found.tick (i * task.period + task.end)) (record { tick = i * task.period + task.end; task = k; instance = i }) found
+later_if task k found None = found
 
 unfoldable pub later_of : Task → ℕ → ℕ → Publication → Publication
 later_of task k t found = later_if task k found (last_closed task t)
@@ -44,9 +42,9 @@ unfoldable pub next_of : Tasks → (ℕ → Bool) → ℕ → ℕ → ℕ
 next_of tasks writes h t = next_below tasks writes h t tasks.count
 
 -- the later of what was reached so far and the closing of instance i, where that opens at or after a tick
-abbrev pub reach_if : Task → ℕ → ℕ → Found → ℕ
-reach_if task from reached (At i) = when (ltb (i * task.period + task.start) from) reached (max reached (i * task.period + task.end))
-reach_if task from reached Nothing = reached
+abbrev pub reach_if : Task → ℕ → ℕ → Option ℕ → ℕ
+reach_if task from reached (Some i) = when (ltb (i * task.period + task.start) from) reached (max reached (i * task.period + task.end))
+reach_if task from reached None = reached
 
 unfoldable pub reach_of : Task → ℕ → ℕ → ℕ → ℕ
 reach_of task from before reached = reach_if task from reached (last_opened task before)

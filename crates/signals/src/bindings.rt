@@ -8,31 +8,29 @@ ghost use Rattle.signals.specs.Forms.{later_of, binding_of};
 use crate::Publication;
 use crate::rights::writes;
 use rules::{CARRIED, MOST_SIGNALS, MOST_TASKS, Task, Tasks};
-use windows::Found;
 
 // The later of what was found so far and the last publication of task number k at or before a tick.
+#[tactic(auto, using(crate::proofs::Steps::laters))]
 pub fn later(task: Task, k: usize, tick: u32, found: Publication) -> Publication
     requires { Windowed task }
     ensures { result ≡ later_of task k tick found }
 {
-    match windows::last_closed(task, tick) {
-        Found::Nothing => found,
-        Found::At(i) => {
-            let closed = i * task.period + task.end;
-            if found.tick < closed {
-                Publication {
-                    tick: closed,
-                    task: k,
-                    instance: i,
-                }
-            } else {
-                found
-            }
-        }
+    let Some(instance) = windows::last_closed(task, tick) else {
+        return found;
+    };
+    let closed = instance * task.period + task.end;
+    if closed <= found.tick {
+        return found;
+    }
+    Publication {
+        tick: closed,
+        task: k,
+        instance,
     }
 }
 
 // The value that a reader opening at the tick is bound to: the latest published at or before it, else the carried one.
+#[tactic(auto, using(crate::proofs::Passes::passes), unfolding(crate::specs::Forms::binding_of))]
 pub fn binding_at(
     tasks: Tasks,
     grid: &[[u8; MOST_SIGNALS]; MOST_TASKS],
@@ -47,12 +45,10 @@ pub fn binding_at(
         task: CARRIED,
         instance: 0,
     };
-    let mut k: usize = 0;
-    while k < tasks.count {
+    for k in 0..tasks.count {
         if writes(grid, k, signal) {
             found = later(tasks.list[k], k, tick, found);
         }
-        k += 1;
     }
     found
 }

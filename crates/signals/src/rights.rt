@@ -5,6 +5,7 @@ ghost use Rattle.rules.specs.Reading.{writes_in, reads_in};
 
 use rules::{MOST_SIGNALS, MOST_TASKS, WRITE};
 
+#[tactic(auto, unfolding(rules::specs::Reading::writes_in))]
 pub fn writes(grid: &[[u8; MOST_SIGNALS]; MOST_TASKS], task: usize, signal: usize) -> bool
     requires { (task < most_tasks) × (signal < most_signals) }
     ensures { result ≡ writes_in grid.now signal task }
@@ -12,6 +13,7 @@ pub fn writes(grid: &[[u8; MOST_SIGNALS]; MOST_TASKS], task: usize, signal: usiz
     grid[task][signal] / WRITE % 2 == 1
 }
 
+#[tactic(auto, unfolding(rules::specs::Reading::reads_in))]
 pub fn reads(grid: &[[u8; MOST_SIGNALS]; MOST_TASKS], task: usize, signal: usize) -> bool
     requires { (task < most_tasks) × (signal < most_signals) }
     ensures { result ≡ reads_in grid.now signal task }

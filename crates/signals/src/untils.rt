@@ -7,9 +7,9 @@ ghost use Rattle.signals.specs.Forms.{next_of, reach_of, until_of};
 
 use crate::rights::{reads, writes};
 use rules::{MOST_SIGNALS, MOST_TASKS, Task, Tasks};
-use windows::Found;
 
 // The first publication after a tick, or the hyper-period where there is none.
+#[tactic(auto, using(crate::proofs::Passes::passes), unfolding(crate::specs::Forms::next_of))]
 pub fn next_publication(
     tasks: Tasks,
     grid: &[[u8; MOST_SIGNALS]; MOST_TASKS],
@@ -21,34 +21,32 @@ pub fn next_publication(
     ensures { result ≡ next_of tasks (writes_in grid.now signal) hyper tick }
 {
     let mut next = hyper;
-    let mut k: usize = 0;
-    while k < tasks.count {
+    for k in 0..tasks.count {
         if writes(grid, k, signal) {
             next = windows::next_closing(tasks.list[k], tick, next);
         }
-        k += 1;
     }
     next
 }
 
 // The later of what was reached so far and the closing of the task's last instance that opens at or after one tick and before another.
+#[tactic(auto, using(crate::proofs::Steps::reaches))]
 pub fn reach(task: Task, from: u32, before: u32, reached: u32) -> u32
     requires { Windowed task × (before ≤ longest) }
     ensures { result ≡ reach_of task from before reached }
 {
-    match windows::last_opened(task, before) {
-        Found::Nothing => reached,
-        Found::At(i) => {
-            if i * task.period + task.start < from {
-                return reached;
-            }
-            let closed = i * task.period + task.end;
-            if closed <= reached { reached } else { closed }
-        }
+    let Some(i) = windows::last_opened(task, before) else {
+        return reached;
+    };
+    if i * task.period + task.start < from {
+        return reached;
     }
+    let closed = i * task.period + task.end;
+    reached.max(closed)
 }
 
 // Until when the value that was published at a tick, 0 for the carried one, is live: the next publication, or the last closing of a reader bound to it.
+#[tactic(auto, using(crate::proofs::Lives::lives))]
 pub fn until(
     tasks: Tasks,
     grid: &[[u8; MOST_SIGNALS]; MOST_TASKS],
@@ -61,12 +59,10 @@ pub fn until(
 {
     let next = next_publication(tasks, grid, signal, hyper, published);
     let mut reached = next;
-    let mut k: usize = 0;
-    while k < tasks.count {
+    for k in 0..tasks.count {
         if reads(grid, k, signal) {
             reached = reach(tasks.list[k], published, next, reached);
         }
-        k += 1;
     }
     reached
 }

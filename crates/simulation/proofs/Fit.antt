@@ -1,4 +1,5 @@
 -- Fit and unfit states: 25 exactly on the unfit ones, a fit state stays fit, nothing in it leads outside, a refusal leaves the state. Assumes nothing.
+use Rattle.std.specs.Prelude.{Result, Ok, Err}
 use Prim.Native.Nat.{ℕ, ◌+◌, ◌-◌, ◌<◌}
 use mathlib.Core.Path.{◌≡◌, refl}
 use mathlib.Core.Bool.{true, false, ◌&&◌}
@@ -10,15 +11,15 @@ use mathlib.Core.Logic.{◌⊎◌, inl, inr}
 use borrow.Author.Tests.{leb-true, le-leb, ltb-true, ltb-false, lt-ltb, eqb-true, eq-eqb}
 use Rattle.rules.specs.Words.{when}
 use Rattle.rules.specs.Table.{most_tasks, most_signals, most_uses, words, longest}
-use Rattle.rules.specs.declared.Answer.{Answer}
+use Rattle.rules.specs.declared.Refusal.{Refusal}
 use Rattle.theory.proofs.Tests.{split, both, and_is, or_cases, or_left, or_right}
 use Rattle.theory.proofs.Check.{every_at, every_is}
 use Rattle.state.specs.Parts.{at, none, cell, loaded, hyper, counts, reads, writes, uses, carried, held, tick, numbers, positions}
 use Rattle.state.specs.Fitness.{access_fits, in_uses, task_fits, tasks_fit, positions_fit}
 use Rattle.state.specs.Fitness as fitness
 use Rattle.state.specs.Rows.{use_of, published, place_of}
-use Rattle.state.specs.declared.Place.{Place}
 use Rattle.state.proofs.Sets.{alike}
+use Rattle.state.proofs.Places.{place_cases}
 use Rattle.state.proofs.Frames.{fit_has, fit_is, position_in, use_in, published_fit, advanced_fit}
 use Rattle.machine.specs.declared.Machine.{Machine}
 use Rattle.machine.specs.Calls.{fit, unloaded, step_in, read_at, read_in, written_at, write_in, step_of, write_of}
@@ -130,10 +131,9 @@ module _ (m : Machine) where
   unfolding step_in when
   step_fits f = rw f (advanced_fit (published n) s (published_fit n f))
 
-  written_fits : (word : ℕ) (p : Place) → fitness.fit n ≡ true → fitness.fit (written_at n s word p).numbers ≡ true
-  written_fits word (Place.At p) f = f
-  written_fits word Place.NoAccess f = f
-  written_fits word Place.Outside f = f
+  written_fits : (word : ℕ) (p : Result ℕ Refusal) → fitness.fit n ≡ true → fitness.fit (written_at n s word p).numbers ≡ true
+  written_fits word (Ok p) f = f
+  written_fits word (Err e) f = f
 
   pub write_fits : (task signal word : ℕ) → fit m ≡ true → fit (write_of m task signal word).machine ≡ true
   unfolding write_in when
@@ -141,39 +141,39 @@ module _ (m : Machine) where
 
   -- ---- a fit state's answers are others than Unfit
 
-  done_fit : Answer.Done 0 ≡ Answer.Unfit → ⊥
+  done_fit : ◌≡◌ {A = Result ℕ Refusal} (Ok 0) (Err Refusal.Unfit) → ⊥
   done_fit e = let z : ◌≡◌ {A = ℕ} 0 1 = cc in omega arith
 
-  read_fit : (p : Place) → (read_at s p).answer ≡ Answer.Unfit → ⊥
-  read_fit (Place.At p) e = done_fit e
-  read_fit Place.NoAccess e = let z : ◌≡◌ {A = ℕ} 0 1 = cc in omega arith
-  read_fit Place.Outside e = let z : ◌≡◌ {A = ℕ} 0 1 = cc in omega arith
+  no_access_fit : ◌≡◌ {A = Result ℕ Refusal} (Err Refusal.NoAccess) (Err Refusal.Unfit) → ⊥
+  no_access_fit e = let z : ◌≡◌ {A = ℕ} 0 1 = cc in omega arith
 
-  write_fit : (word : ℕ) (p : Place) → (written_at n s word p).answer ≡ Answer.Unfit → ⊥
-  write_fit word (Place.At p) e = done_fit e
-  write_fit word Place.NoAccess e = let z : ◌≡◌ {A = ℕ} 0 1 = cc in omega arith
-  write_fit word Place.Outside e = let z : ◌≡◌ {A = ℕ} 0 1 = cc in omega arith
+  outside_fit : ◌≡◌ {A = Result ℕ Refusal} (Err Refusal.Outside) (Err Refusal.Unfit) → ⊥
+  outside_fit e = let z : ◌≡◌ {A = ℕ} 0 1 = cc in omega arith
+
+  read_fit : (task signal : ℕ) → (read_at s (place_of n reads task signal)).answer ≡ (Err Refusal.Unfit) → ⊥
+  read_fit task signal = place_cases (λ p. (read_at s p).answer ≡ (Err Refusal.Unfit) → ⊥) (λ p. done_fit) no_access_fit outside_fit n reads task signal
+
+  write_fit : (word task signal : ℕ) → (written_at n s word (place_of n writes task signal)).answer ≡ (Err Refusal.Unfit) → ⊥
+  write_fit word task signal = place_cases (λ p. (written_at n s word p).answer ≡ (Err Refusal.Unfit) → ⊥) (λ p. done_fit) no_access_fit outside_fit n writes task signal
 
   pub unfit_exact : UnfitExact m
   unfolding step_in read_in write_in when
   unfit_exact =
       record {
         step = (λ h. split (fit m) (λ f. absurd (done_fit (rw f at h))) (λ f. f), λ f. rw f);
-        read = λ task signal. (λ h. split (fit m) (λ f. absurd (read_fit (place_of n reads task signal) (rw f at h))) (λ f. f), λ f. rw f);
-        write = λ task signal word. (λ h. split (fit m) (λ f. absurd (write_fit word (place_of n writes task signal) (rw f at h))) (λ f. f), λ f. rw f);
+        read = λ task signal. (λ h. split (fit m) (λ f. absurd (read_fit task signal (rw f at h))) (λ f. f), λ f. rw f);
+        write = λ task signal word. (λ h. split (fit m) (λ f. absurd (write_fit word task signal (rw f at h))) (λ f. f), λ f. rw f);
       }
 
   -- ---- refusals
 
-  read_none : (p : Place) → ((read_at s p).answer ≡ Answer.Done 0 → ⊥) → (read_at s p).word ≡ 0
-  read_none (Place.At p) h = absurd (h refl)
-  read_none Place.NoAccess h = refl
-  read_none Place.Outside h = refl
+  read_none : (p : Result ℕ Refusal) → ((read_at s p).answer ≡ Ok 0 → ⊥) → (read_at s p).word ≡ 0
+  read_none (Ok p) h = absurd (h refl)
+  read_none (Err e) h = refl
 
-  write_none : (word : ℕ) (p : Place) → ((written_at n s word p).answer ≡ Answer.Done 0 → ⊥) → ((written_at n s word p).numbers ≡ n) × ((written_at n s word p).store ≡ s)
-  write_none word (Place.At p) h = absurd (h refl)
-  write_none word Place.NoAccess h = (refl, refl)
-  write_none word Place.Outside h = (refl, refl)
+  write_none : (word : ℕ) (p : Result ℕ Refusal) → ((written_at n s word p).answer ≡ Ok 0 → ⊥) → ((written_at n s word p).numbers ≡ n) × ((written_at n s word p).store ≡ s)
+  write_none word (Ok p) h = absurd (h refl)
+  write_none word (Err e) h = (refl, refl)
 
   pub refused_leaves : RefusedLeaves m
   unfolding step_in read_in write_in when

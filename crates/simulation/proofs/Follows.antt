@@ -4,6 +4,8 @@ use mathlib.Core.Path.{◌≡◌, refl, sym, ap, ◌∙◌}
 use mathlib.Core.Bool.{Bool, true, false, not, ◌&&◌, cond}
 use mathlib.Core.List.{List, [], ◌∷◌}
 use mathlib.Core.Option.{Option, none, some}
+use Rattle.std.specs.Prelude.{Some, None}
+use Rattle.std.specs.Prelude as std
 use native.Mathlib.Omega.{arith}
 use native.Mathlib.Numerals.{add-one}
 use lib.Dec.{leb, ltb, eqb}
@@ -28,18 +30,17 @@ use Rattle.theory.proofs.Memory.{put_sized}
 use Rattle.state.specs.Parts.{at, cell, periods, starts, ends, counts, writes, uses, held, tick, numbers}
 use Rattle.state.specs.Parts as parts
 use Rattle.state.specs.Rows.{phase_of, instance_if, opening_of, closing_of, inside_of, load, save, lacks, use_of, publish_one, fill_one, carry_one, release_one, at_instance, published, openings, copies, released}
-use Rattle.state.specs.declared.Instance.{Instance}
 use Rattle.state.proofs.Frames.{Off, set_off, published_off}
 use Rattle.simulation.specs.Simulates.{position_of, permits, Knows}
 
 -- ---- instances
 
 -- the instance, where a test holds
-abbrev found_if : Bool → ℕ → Instance
-found_if test i = cond test (Instance.At i) Instance.Nothing
+abbrev found_if : Bool → ℕ → std.Option ℕ
+found_if test i = cond test (Some i) None
 
 -- a task without instances has none
-none_of_none : (test : Bool) (period t : ℕ) → instance_if test period 0 t ≡ Instance.Nothing
+none_of_none : (test : Bool) (period t : ℕ) → instance_if test period 0 t ≡ None
 unfolding instance_if when
 none_of_none test period t = split test (λ e. rw e (split (eqb period 0) (λ q. rw q) (λ q. rw (q, le-leb 0 (t / period) (omega arith))))) (λ e. rw e)
 
@@ -209,9 +210,9 @@ module _ (tab : Table) (L : Layout) (F : Fits tab) (n : List ℕ) (K : Knows tab
           off = λ x o. set_off a (held + r) x (use_of a writes k i r) (o r b) ∙ q.off x o;
         }))
 
-    row_like : (k : ℕ) (o : Instance) (a : List ℕ) → Like a → Like (at_instance (publish_one k) o a)
-    row_like k (Instance.At i) a q = loop_keeps Like most_signals (publish_one k i) a (λ r x b. publish_like k i r b x) q
-    row_like k Instance.Nothing a q = q
+    row_like : (k : ℕ) (o : std.Option ℕ) (a : List ℕ) → Like a → Like (at_instance (publish_one k) o a)
+    row_like k (Some i) a q = loop_keeps Like most_signals (publish_one k i) a (λ r x b. publish_like k i r b x) q
+    row_like k None a q = q
 
     module _ (full : length n ≡ numbers) where
       -- what is seen of signal s after a task's turn for signal r
@@ -245,7 +246,7 @@ module _ (tab : Table) (L : Layout) (F : Fits tab) (n : List ℕ) (K : Knows tab
           (λ o. rw o (split (tab.writes s k) (λ w. rw w) (λ w. rw w)))
 
       -- tasks that there are not close nothing
-      beyond : (k : ℕ) → tab.tasks ≤ k → k < most_tasks → closing_of n k ≡ Instance.Nothing
+      beyond : (k : ℕ) → tab.tasks ≤ k → k < most_tasks → closing_of n k ≡ None
       unfolding closing_of
       beyond k a b = rw (K.no_task k a b) (none_of_none (eqb (phase_of (at n (periods + k)) (at n tick) + 1) (at n (ends + k))) (at n (periods + k)) (at n tick))
 
@@ -277,12 +278,12 @@ module _ (tab : Table) (L : Layout) (F : Fits tab) (n : List ℕ) (K : Knows tab
       pub closed_none : (s : ℕ) → tab.signals ≤ s → s < most_signals → at n (held + s) ≡ 0 → at (published n) (held + s) ≡ 0
       unfolding published publish_one
       closed_none s a b e =
-          (loop_keeps None most_tasks turn n (λ k x h q. row k h (closing_of x k) x q) (record { long = refl; off = λ k o. refl }, e)).1
+          (loop_keeps Bare most_tasks turn n (λ k x h q. row k h (closing_of x k) x q) (record { long = refl; off = λ k o. refl }, e)).1
         where
-          None : List ℕ → Type 0
-          None x = Like x × (at x (held + s) ≡ 0)
+          Bare : List ℕ → Type 0
+          Bare x = Like x × (at x (held + s) ≡ 0)
 
-          one : (k i r : ℕ) → k < most_tasks → r < most_signals → (x : List ℕ) → None x → None (publish_one k i r x)
+          one : (k i r : ℕ) → k < most_tasks → r < most_signals → (x : List ℕ) → Bare x → Bare (publish_one k i r x)
           one k i r h c x (q, z) = (
             publish_like k i r c x q,
             split (eqb s r)
@@ -292,9 +293,9 @@ module _ (tab : Table) (L : Layout) (F : Fits tab) (n : List ℕ) (K : Knows tab
                 (λ w. rw w (set_off x (held + r) (held + s) (use_of x writes k i r) (λ v. eqb-false s r y (omega arith)) ∙ z))),
           )
 
-          row : (k : ℕ) → k < most_tasks → (o : Instance) (x : List ℕ) → None x → None (at_instance (publish_one k) o x)
-          row k h (Instance.At i) x q = loop_keeps None most_signals (publish_one k i) x (λ r y c. one k i r h c y) q
-          row k h Instance.Nothing x q = q
+          row : (k : ℕ) → k < most_tasks → (o : std.Option ℕ) (x : List ℕ) → Bare x → Bare (at_instance (publish_one k) o x)
+          row k h (Some i) x q = loop_keeps Bare most_signals (publish_one k i) x (λ r y c. one k i r h c y) q
+          row k h None x q = q
 
       -- ---- copies at H
 

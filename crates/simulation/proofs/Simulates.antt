@@ -1,4 +1,5 @@
 -- The code's calls follow document 01's machine. Assumes nothing.
+use Rattle.std.specs.Prelude.{Result, Ok, Err}
 use Prim.Native.Nat.{ℕ, suc, ◌+◌, ◌≤◌, ◌<◌}
 use mathlib.Core.Path.{◌≡◌, refl, sym, ap, ap₂, ◌∙◌}
 use mathlib.Core.Bool.{Bool, true, not, ◌&&◌, cond}
@@ -28,7 +29,7 @@ use Rattle.state.specs.Parts.{at, cell, reads, writes, uses, held, tick, numbers
 use Rattle.state.specs.Parts as parts
 use Rattle.state.specs.Fitness as fitness
 use Rattle.state.specs.Rows.{use_of, save, published, released, advanced, openings, place_of}
-use Rattle.state.specs.declared.Place.{Place}
+use Rattle.rules.specs.declared.Refusal.{Refusal}
 use Rattle.state.proofs.Frames.{set_off, tick_below, published_off, published_fit, released_off, released_fit, fit_tick}
 use Rattle.machine.specs.declared.Machine.{Machine}
 use Rattle.machine.specs.Calls.{keeping, step_in, read_in, write_in, step_of, write_of}
@@ -36,8 +37,8 @@ use Rattle.simulation.specs.Simulates.{position_of, permits, Accesses, Knows, Ru
 use Rattle.simulation.proofs.Follows.{inside_is, opened_is, closed_like, closed_is, closed_none, copied_is, released_long, released_at, load_is, save_is}
 
 -- a place that is refused with a number
-abbrev refused_place : ℕ → Place
-refused_place n = cond (eqb n no_access) Place.NoAccess Place.Outside
+abbrev refused_place : ℕ → Result ℕ Refusal
+refused_place n = cond (eqb n no_access) (Err Refusal.NoAccess) (Err Refusal.Outside)
 
 -- ---- what loading alone writes is known as long as it stays
 
@@ -172,7 +173,7 @@ module _ (tab : Table) (L : Layout) (F : Fits tab) (st : State) (m : Machine) (R
 
   -- where a task finds a signal, as document 01 judges it
   place_is : (allowed : ℕ → ℕ → Bool) (place : ℕ → ℕ → ℕ → stores.Place) (kind : ℕ) → Accesses tab allowed place kind n → (k s : ℕ)
-      → place_of n kind k s ≡ judged tab allowed s k t (Place.At (position_of (place s k (instance tab k t)))) refused_place
+      → place_of n kind k s ≡ judged tab allowed s k t (Ok (position_of (place s k (instance tab k t)))) refused_place
   unfolding judged place_of when
   place_is allowed place kind X k s =
       split (permits tab allowed k s)
@@ -185,7 +186,7 @@ module _ (tab : Table) (L : Layout) (F : Fits tab) (st : State) (m : Machine) (R
       let one : s < most_signals = omega (arith, F.few_signals) in
       rw (e, lt-leb most_tasks k few, lt-leb most_signals s one, X.exact k s few one ∙ ap not e, inside_is tab L F n R.knows t R.tick_is inside k h)
       (split (is_open tab k (instance tab k t) t)
-      (λ q. rw q (ap Place.At (X.stands s k (instance tab k t) e (instance_lt tab F k t h inside))))
+      (λ q. rw q (ap Ok (X.stands s k (instance tab k t) e (instance_lt tab F k t h inside))))
       (λ q. rw q)))
       (λ e. rw e (split (leb most_tasks k)
       (λ p. rw p)

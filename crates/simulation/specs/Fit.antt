@@ -1,8 +1,8 @@
 -- What document 01 says of fit and unfit states, about the definitions of the calls. Assumes nothing.
-use Rattle.std.specs.Prelude.{ℕ, ◌+◌, ◌≤◌, ◌<◌, ◌≡◌, true, false, List, ◌↔◌, ◌⊎◌}
+use Rattle.std.specs.Prelude.{ℕ, ◌+◌, ◌≤◌, ◌<◌, ◌≡◌, true, false, List, ◌↔◌, ◌⊎◌, Ok, Err}
 use Rattle.rules.specs.Numbers.{told, all_done}
 use Rattle.rules.specs.Table.{most_tasks, most_signals, most_uses, words, longest}
-use Rattle.rules.specs.declared.Answer.{Answer}
+use Rattle.rules.specs.declared.Refusal.{Refusal}
 use Rattle.state.specs.Parts.{at, none, cell, loaded, hyper, counts, reads, writes, uses, carried, held, tick}
 use Rattle.state.specs.Rows.{lacks, use_of}
 use Rattle.machine.specs.declared.Machine.{Machine}
@@ -32,9 +32,9 @@ FitExactly m = (fit m ≡ true) ↔ IsFit m.numbers
 
 -- 25 is given exactly on states that are not fit.
 pub record UnfitExact (m : Machine) : Type 0 where
-  pub step : ((step_of m).answer ≡ Answer.Unfit) ↔ (fit m ≡ false)
-  pub read : (task signal : ℕ) → ((read_of m task signal).answer ≡ Answer.Unfit) ↔ (fit m ≡ false)
-  pub write : (task signal word : ℕ) → ((write_of m task signal word).answer ≡ Answer.Unfit) ↔ (fit m ≡ false)
+  pub step : ((step_of m).answer ≡ (Err Refusal.Unfit)) ↔ (fit m ≡ false)
+  pub read : (task signal : ℕ) → ((read_of m task signal).answer ≡ (Err Refusal.Unfit)) ↔ (fit m ≡ false)
+  pub write : (task signal word : ℕ) → ((write_of m task signal word).answer ≡ (Err Refusal.Unfit)) ↔ (fit m ≡ false)
 
 -- A fit state stays fit through every call, and an accepted loading makes any state fit, so 25 is never given on one reached from loading.
 pub record StaysFit (m : Machine) : Type 0 where
@@ -58,6 +58,6 @@ pub record LeadsInside (m : Machine) : Type 0 where
 
 -- Every refusal leaves the state as it was, and a refused read returns word 0.
 pub record RefusedLeaves (m : Machine) : Type 0 where
-  pub step : ((step_of m).answer ≡ Answer.Done 0 → ⊥) → (step_of m).machine ≡ m
-  pub read : (task signal : ℕ) → ((read_of m task signal).answer ≡ Answer.Done 0 → ⊥) → (read_of m task signal).word ≡ 0
-  pub write : (task signal word : ℕ) → ((write_of m task signal word).answer ≡ Answer.Done 0 → ⊥) → (write_of m task signal word).machine ≡ m
+  pub step : ((step_of m).answer ≡ Ok 0 → ⊥) → (step_of m).machine ≡ m
+  pub read : (task signal : ℕ) → ((read_of m task signal).answer ≡ Ok 0 → ⊥) → (read_of m task signal).word ≡ 0
+  pub write : (task signal word : ℕ) → ((write_of m task signal word).answer ≡ Ok 0 → ⊥) → (write_of m task signal word).machine ≡ m

@@ -1,4 +1,5 @@
 -- What a change of one part leaves of the others, and that it keeps a state fit. Assumes nothing.
+use Rattle.std.specs.Prelude.{Option, Some, None}
 use Prim.Native.Nat.{ℕ, zero, suc, ◌+◌, ◌-◌, ◌≤◌, ◌<◌}
 use mathlib.Core.Path.{◌≡◌, refl, ap, ap₂, ◌∙◌, subst}
 use mathlib.Core.Bool.{true, ◌&&◌}
@@ -12,7 +13,6 @@ use Rattle.rules.specs.Table.{most_tasks, most_signals, most_uses, longest}
 use Rattle.state.specs.Parts.{at, cell, loaded, hyper, tick, counts, reads, writes, uses, positions, carried, held}
 use Rattle.state.specs.Fitness.{in_block, access_fits, task_fits, tasks_fit, positions_fit, running, fit}
 use Rattle.state.specs.Rows.{lacks, use_of, publish_one, release_one, at_instance, closing_of, published, released, advanced}
-use Rattle.state.specs.declared.Instance.{Instance}
 use Rattle.theory.proofs.Check.{every_at, every_is}
 use Rattle.theory.proofs.Loops.{loop_keeps}
 use Rattle.state.proofs.Folds.{every_same}
@@ -37,9 +37,9 @@ abbrev pub Off : (part size k : ℕ) → Type 0
 Off part size k = (s : ℕ) → s < size → k ≡ part + s → ⊥
 
 -- what every signal keeps, an instance keeps
-pub instance_keeps : (P : List ℕ → Type 0) (f : ℕ → ℕ → List ℕ → List ℕ) (o : Instance) → ((i s : ℕ) (a : List ℕ) → s < most_signals → P a → P (f i s a)) → (a : List ℕ) → P a → P (at_instance f o a)
-instance_keeps P f (Instance.At i) h a p = loop_keeps P most_signals (f i) a (h i) p
-instance_keeps P f Instance.Nothing h a p = p
+pub instance_keeps : (P : List ℕ → Type 0) (f : ℕ → ℕ → List ℕ → List ℕ) (o : Option ℕ) → ((i s : ℕ) (a : List ℕ) → s < most_signals → P a → P (f i s a)) → (a : List ℕ) → P a → P (at_instance f o a)
+instance_keeps P f (Some i) h a p = loop_keeps P most_signals (f i) a (h i) p
+instance_keeps P f None h a p = p
 
 -- what a closing of one signal keeps, the closings keep
 pub published_keeps : (P : List ℕ → Type 0) → ((t i s : ℕ) (a : List ℕ) → s < most_signals → P a → P (publish_one t i s a)) → (n : List ℕ) → P n → P (published n)

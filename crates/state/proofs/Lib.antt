@@ -1,3 +1,4 @@
 pub mod Folds
 pub mod Frames
+pub mod Places
 pub mod Sets

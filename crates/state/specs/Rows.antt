@@ -1,11 +1,11 @@
 -- Document 01, "The machine", over the list of its numbers. Past the end of a part's list 0 stands and nothing is stored; a fit state never leads there.
 -- Assumes nothing.
-use Rattle.std.specs.Prelude.{ℕ, ◌+◌, ◌/◌, ◌%◌, Bool, not, ◌&&◌, cond, List, leb, ltb, eqb, get_or, set}
+use Rattle.std.specs.Prelude.{ℕ, ◌+◌, ◌/◌, ◌%◌, Bool, not, ◌&&◌, cond, List, leb, ltb, eqb, get_or, set, Option, Some, None, Result, Ok, Err}
 use Rattle.rules.specs.Words.{when, up_to}
 use Rattle.rules.specs.Table.{most_tasks, most_signals, most_uses, words}
 use Rattle.state.specs.Parts.{at, none, cell, hyper, tick, periods, starts, ends, counts, writes, uses, carried, held}
-use Rattle.state.specs.declared.Instance.{Instance}
-use Rattle.state.specs.declared.Place.{Place}
+use Rattle.rules.specs.declared.Refusal.{Refusal}
+use Rattle.state.specs.declared.Window.{Window}
 
 -- ---- a task's instance at the tick
 
@@ -14,30 +14,34 @@ abbrev pub phase_of : (period tick : ℕ) → ℕ
 phase_of p t = cond (eqb p 0) 0 (t % p)
 
 -- the instance whose period the tick lies in, if the test holds; a task of period 0 has none, and none has one past its count
-unfoldable pub instance_if : Bool → (period count tick : ℕ) → Instance
+unfoldable pub instance_if : Bool → (period count tick : ℕ) → Option ℕ
 instance_if test p c t =
-    when (not test) Instance.Nothing
-    (when (eqb p 0) Instance.Nothing
-    (when (leb c (t / p)) Instance.Nothing
-    (Instance.At (t / p))))
+    when (not test) None
+    (when (eqb p 0) None
+    (when (leb c (t / p)) None
+    (Some (t / p))))
 
 module _ (n : List ℕ) (t : ℕ) where
+  -- its window, and how many instances it has
+  abbrev pub window_of : Window
+  window_of = record { period = at n (periods + t); start = at n (starts + t); end = at n (ends + t); count = at n (counts + t) }
+
   -- how far task t is into its period now
   abbrev pub phase_now : ℕ
   phase_now = phase_of (at n (periods + t)) (at n tick)
 
   -- its instance now, if the test holds
-  abbrev pub now_if : Bool → Instance
+  abbrev pub now_if : Bool → Option ℕ
   now_if test = instance_if test (at n (periods + t)) (at n (counts + t)) (at n tick)
 
   -- the instance that opens now, that closes at the next tick, that is inside its window now
-  unfoldable pub opening_of : Instance
+  unfoldable pub opening_of : Option ℕ
   opening_of = now_if (eqb phase_now (at n (starts + t)))
 
-  unfoldable pub closing_of : Instance
+  unfoldable pub closing_of : Option ℕ
   closing_of = now_if (eqb (phase_now + 1) (at n (ends + t)))
 
-  unfoldable pub inside_of : Instance
+  unfoldable pub inside_of : Option ℕ
   inside_of = now_if (leb (at n (starts + t)) phase_now && ltb phase_now (at n (ends + t)))
 
 -- ---- a word of the store
@@ -76,16 +80,16 @@ release_one s n = set n (held + s) (at n (carried + s))
 -- ---- all signals, all tasks
 
 -- for every signal, at the instance if there is one
-abbrev pub at_instance : (ℕ → ℕ → List ℕ → List ℕ) → Instance → List ℕ → List ℕ
-at_instance f (Instance.At i) a = up_to most_signals (f i) a
-at_instance f Instance.Nothing a = a
+abbrev pub at_instance : (ℕ → ℕ → List ℕ → List ℕ) → Option ℕ → List ℕ → List ℕ
+at_instance f (Some i) a = up_to most_signals (f i) a
+at_instance f None a = a
 
 -- the numbers after the closings of the next tick
 unfoldable pub published : List ℕ → List ℕ
 published = up_to most_tasks (λ t n. at_instance (publish_one t) (closing_of n t) n)
 
 -- the elements of the instances that the test names, each set to the word of its signal
-abbrev pub fill : (test : ℕ → Instance) → (n words store : List ℕ) → List ℕ
+abbrev pub fill : (test : ℕ → Option ℕ) → (n words store : List ℕ) → List ℕ
 fill test n ws = up_to most_tasks (λ t. at_instance (fill_one n ws t) (test t))
 
 -- the store after the openings of the tick
@@ -114,14 +118,14 @@ advanced n store = cond (ltb (at n tick + 1) (at n hyper)) (lists (set n tick (a
 -- ---- an access
 
 -- where the open instance has the signal, and outside where none is open
-abbrev pub where_open : List ℕ → (kind t s : ℕ) → Instance → Place
-where_open n kind t s (Instance.At i) = Place.At (use_of n kind t i s)
-where_open n kind t s Instance.Nothing = Place.Outside
+abbrev pub where_open : List ℕ → (kind t s : ℕ) → Option ℕ → Result ℕ Refusal
+where_open n kind t s (Some i) = Ok (use_of n kind t i s)
+where_open n kind t s None = Err Refusal.Outside
 
 -- where task t finds signal s now
-unfoldable pub place_of : List ℕ → (kind t s : ℕ) → Place
+unfoldable pub place_of : List ℕ → (kind t s : ℕ) → Result ℕ Refusal
 place_of n kind t s =
-    when (leb most_tasks t) Place.NoAccess
-    (when (leb most_signals s) Place.NoAccess
-    (when (lacks n kind t s) Place.NoAccess
+    when (leb most_tasks t) (Err Refusal.NoAccess)
+    (when (leb most_signals s) (Err Refusal.NoAccess)
+    (when (lacks n kind t s) (Err Refusal.NoAccess)
     (where_open n kind t s (inside_of n t))))

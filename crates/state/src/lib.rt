@@ -4,12 +4,12 @@
 ghost use Rattle.std.specs.Prelude.{◌≡◌, ◌||◌, ℕ, ◌+◌, ◌<◌, ◌≤◌, leb, eqb};
 ghost use Rattle.rules.specs.Table.{most_tasks, most_signals, most_uses};
 ghost use Rattle.rules.specs.Words.{up_to};
-ghost use Rattle.state.specs.Parts.{at, none, tick, periods, starts, ends, counts, last_kind};
+ghost use Rattle.state.specs.Parts.{at, none, tick, last_kind};
+ghost use Rattle.state.specs.Kinds.{part_of, right_of};
 ghost use Rattle.state.specs.Fitness.{in_block, in_uses, task_fits, tasks_fit, positions_fit, running, fit};
-ghost use Rattle.state.specs.Rows.{phase_of, instance_if, phase_now, now_if, opening_of, closing_of, inside_of, load, save, lacks, use_of, publish_one, fill_one, carry_one, release_one, at_instance, published, openings, copies, released, advanced, place_of};
+ghost use Rattle.state.specs.Rows.{window_of, phase_of, instance_if, opening_of, closing_of, inside_of, load, save, lacks, use_of, publish_one, fill_one, carry_one, release_one, at_instance, published, openings, copies, released, advanced, place_of};
 
-use fields::both;
-use rules::{LONGEST, MOST_SIGNALS, MOST_TASKS, MOST_USES, WORDS};
+use rules::{LONGEST, MOST_SIGNALS, MOST_TASKS, MOST_USES, READ, Refusal, WORDS, WRITE};
 
 // One cell for each task and signal, a row for each task.
 pub const CELLS: usize = MOST_TASKS * MOST_SIGNALS;
@@ -47,7 +47,7 @@ pub const NUMBERS: usize = TICK + 1;
 // All positions together.
 const POSITIONS: usize = MOST_USES + 2 * MOST_SIGNALS;
 
-// Stands for no access, where else the index of its first use stands.
+// Stands for no access, where else the index of its first use stands. A number and no Option, because C lends the list as numbers of 16 bits.
 pub const NONE: u16 = 65535;
 
 const BLOCK: u16 = WORDS as u16;
@@ -55,25 +55,33 @@ const BLOCK: u16 = WORDS as u16;
 // No task has more instances than there are uses.
 const MOST_COUNT: u16 = MOST_USES as u16;
 
-// A task's instance, where there is one.
+// The two kinds of access that a task has to a signal.
 #[derive(Clone, Copy)]
-pub enum Instance {
-    At(u16),
-    Nothing,
+pub enum Kind {
+    Reads,
+    Writes,
 }
 
-// Where a task finds a signal now: at a position of the store, or why nowhere.
-#[derive(Clone, Copy)]
-pub enum Place {
-    At(u16),
-    NoAccess,
-    Outside,
-}
+impl Kind {
+    // The part of the numbers that has a cell of this kind for each task and signal.
+    pub fn part(self) -> usize
+        ensures { (result ≡ part_of self) × (result ≤ last_kind) }
+    {
+        match self {
+            Kind::Reads => READS,
+            Kind::Writes => WRITES,
+        }
+    }
 
-fn wide(x: u16) -> usize
-    ensures { (result ≡ x) × (result < 65536) }
-{
-    x as usize
+    // The right that permits it, as a cell of the grid has it.
+    pub fn right(self) -> u8
+        ensures { (result ≡ right_of self) × (0 < result) }
+    {
+        match self {
+            Kind::Reads => READ,
+            Kind::Writes => WRITE,
+        }
+    }
 }
 
 // Fitness.
@@ -84,12 +92,13 @@ fn in_block(position: u16) -> bool
     position < BLOCK
 }
 
+#[tactic(auto, using(crate::proofs::Folds::tested), unfolding(crate::specs::Fitness::positions_fit))]
 fn positions_fit(numbers: &[u16; NUMBERS]) -> bool
     ensures { result ≡ positions_fit numbers.now }
 {
     let mut ok = true;
-    for k in 0..POSITIONS {
-        ok = both(in_block(numbers[USES + k]), ok);
+    for position in &numbers[USES..TICK] {
+        ok &= in_block(*position);
     }
     ok
 }
@@ -99,19 +108,17 @@ fn last_first(count: u16) -> u16
     requires { count ≤ most_uses }
     ensures { (first : ℕ) → leb first result ≡ in_uses count first }
 {
-    if count == 0 {
-        return MOST_COUNT - 1;
-    }
-    MOST_COUNT - count
+    MOST_COUNT - count.max(1)
 }
 
 // No access, or an index up to the last.
 fn access_fits(last: u16, first: u16) -> bool
     ensures { result ≡ (eqb first none || leb first last) }
 {
-    if first == NONE { true } else { first <= last }
+    (first == NONE) | (first <= last)
 }
 
+#[tactic(auto, using(crate::proofs::Folds::tested), unfolding(crate::specs::Fitness::task_fits))]
 fn task_fits(numbers: &[u16; NUMBERS], task: usize) -> bool
     requires { task < most_tasks }
     ensures { result ≡ task_fits numbers.now task }
@@ -125,17 +132,18 @@ fn task_fits(numbers: &[u16; NUMBERS], task: usize) -> bool
     for s in 0..MOST_SIGNALS {
         let reads = access_fits(last, numbers[READS + task * MOST_SIGNALS + s]);
         let writes = access_fits(last, numbers[WRITES + task * MOST_SIGNALS + s]);
-        ok = both(both(reads, writes), ok);
+        ok &= reads & writes;
     }
     ok
 }
 
+#[tactic(auto, using(crate::proofs::Folds::tested), unfolding(crate::specs::Fitness::tasks_fit))]
 fn tasks_fit(numbers: &[u16; NUMBERS]) -> bool
     ensures { result ≡ tasks_fit numbers.now }
 {
     let mut ok = true;
     for t in 0..MOST_TASKS {
-        ok = both(task_fits(numbers, t), ok);
+        ok &= task_fits(numbers, t);
     }
     ok
 }
@@ -143,169 +151,149 @@ fn tasks_fit(numbers: &[u16; NUMBERS]) -> bool
 fn is_running(loaded: u16, hyper: u16, tick: u16) -> bool
     ensures { result ≡ running loaded hyper tick }
 {
-    both(
-        both(both(loaded == 1, 1 <= hyper), hyper <= LONGEST as u16),
-        tick < hyper,
-    )
+    (loaded == 1) & (1 <= hyper) & (hyper <= LONGEST as u16) & (tick < hyper)
 }
 
+#[tactic(auto, unfolding(crate::specs::Fitness::fit))]
 pub fn is_fit(numbers: &[u16; NUMBERS]) -> bool
     ensures { result ≡ fit numbers.now }
 {
-    both(
-        is_running(numbers[LOADED], numbers[HYPER], numbers[TICK]),
-        both(tasks_fit(numbers), positions_fit(numbers)),
-    )
+    is_running(numbers[LOADED], numbers[HYPER], numbers[TICK])
+        & (tasks_fit(numbers) & positions_fit(numbers))
 }
 
 // A task's window, and how many instances it has; a task that the table does not have has none.
-
-fn period(numbers: &[u16; NUMBERS], task: usize) -> u16
-    requires { task < most_tasks }
-    ensures { result ≡ at numbers.now (periods + task) }
-{
-    numbers[PERIODS + task]
+#[derive(Clone, Copy)]
+pub struct Window {
+    pub period: u16,
+    pub start: u16,
+    pub end: u16,
+    pub count: u16,
 }
 
-fn start(numbers: &[u16; NUMBERS], task: usize) -> u16
-    requires { task < most_tasks }
-    ensures { result ≡ at numbers.now (starts + task) }
-{
-    numbers[STARTS + task]
-}
-
-fn end(numbers: &[u16; NUMBERS], task: usize) -> u16
-    requires { task < most_tasks }
-    ensures { result ≡ at numbers.now (ends + task) }
-{
-    numbers[ENDS + task]
-}
-
-pub fn instances(numbers: &[u16; NUMBERS], task: usize) -> u16
-    requires { task < most_tasks }
-    ensures { result ≡ at numbers.now (counts + task) }
-{
-    numbers[COUNTS + task]
-}
-
-// A task's instance at the tick.
-
-fn phase(period: u16, tick: u16) -> u16
-    ensures { (result ≡ phase_of period tick) × (result < 65535) }
-{
-    if period == 0 { 0 } else { tick % period }
-}
-
-// The instance whose period the tick lies in, if the test holds and the task has it.
-fn instance_if(test: bool, period: u16, count: u16, tick: u16) -> Instance
-    ensures { result ≡ instance_if test period count tick }
-{
-    if !test {
-        return Instance::Nothing;
+impl Window {
+    // How far the tick is into its period.
+    fn phase(self, tick: u16) -> u16
+        ensures { (result ≡ phase_of self.period tick) × (result < 65535) }
+    {
+        if self.period == 0 {
+            0
+        } else {
+            tick % self.period
+        }
     }
-    if period == 0 {
-        return Instance::Nothing;
+
+    // The instance whose period the tick lies in, if the test holds and the task has it.
+    #[tactic(auto, unfolding(crate::specs::Rows::instance_if, rules::specs::Words::when))]
+    fn instance_if(self, test: bool, tick: u16) -> Option<u16>
+        ensures { result ≡ instance_if test self.period self.count tick }
+    {
+        if !test || self.period == 0 {
+            return None;
+        }
+        let i = tick / self.period;
+        if i < self.count { Some(i) } else { None }
     }
-    let i = tick / period;
-    if count <= i {
-        return Instance::Nothing;
+}
+
+pub fn task_window(numbers: &[u16; NUMBERS], task: usize) -> Window
+    requires { task < most_tasks }
+    ensures { result ≡ window_of numbers.now task }
+{
+    Window {
+        period: numbers[PERIODS + task],
+        start: numbers[STARTS + task],
+        end: numbers[ENDS + task],
+        count: numbers[COUNTS + task],
     }
-    Instance::At(i)
 }
 
-// How far the task is into its period now.
-fn phase_now(numbers: &[u16; NUMBERS], task: usize) -> u16
-    requires { task < most_tasks }
-    ensures { (result ≡ phase_now numbers.now task) × (result < 65535) }
-{
-    phase(period(numbers, task), numbers[TICK])
-}
+// The instance that opens at the tick, that closes at the next one, that is inside its window now.
 
-// Its instance now, if the test holds.
-fn now_if(numbers: &[u16; NUMBERS], task: usize, test: bool) -> Instance
-    requires { task < most_tasks }
-    ensures { result ≡ now_if numbers.now task test }
-{
-    instance_if(
-        test,
-        period(numbers, task),
-        instances(numbers, task),
-        numbers[TICK],
-    )
-}
-
-fn opening(numbers: &[u16; NUMBERS], task: usize) -> Instance
+#[tactic(auto, unfolding(crate::specs::Rows::opening_of))]
+fn opening(numbers: &[u16; NUMBERS], task: usize) -> Option<u16>
     requires { task < most_tasks }
     ensures { result ≡ opening_of numbers.now task }
 {
-    let test = phase_now(numbers, task) == start(numbers, task);
-    now_if(numbers, task, test)
+    let window = task_window(numbers, task);
+    let tick = numbers[TICK];
+    window.instance_if(window.phase(tick) == window.start, tick)
 }
 
-fn closing(numbers: &[u16; NUMBERS], task: usize) -> Instance
+#[tactic(auto, unfolding(crate::specs::Rows::closing_of))]
+fn closing(numbers: &[u16; NUMBERS], task: usize) -> Option<u16>
     requires { task < most_tasks }
     ensures { result ≡ closing_of numbers.now task }
 {
-    let test = phase_now(numbers, task) + 1 == end(numbers, task);
-    now_if(numbers, task, test)
+    let window = task_window(numbers, task);
+    let tick = numbers[TICK];
+    window.instance_if(window.phase(tick) + 1 == window.end, tick)
 }
 
-pub fn inside(numbers: &[u16; NUMBERS], task: usize) -> Instance
+#[tactic(auto, unfolding(crate::specs::Rows::inside_of))]
+pub fn inside(numbers: &[u16; NUMBERS], task: usize) -> Option<u16>
     requires { task < most_tasks }
     ensures { result ≡ inside_of numbers.now task }
 {
-    let p = phase_now(numbers, task);
-    let test = both(start(numbers, task) <= p, p < end(numbers, task));
-    now_if(numbers, task, test)
+    let window = task_window(numbers, task);
+    let tick = numbers[TICK];
+    let phase = window.phase(tick);
+    let test = (window.start <= phase) & (phase < window.end);
+    window.instance_if(test, tick)
 }
 
 // A word of the store. A fit state keeps no position past its end; there nothing is stored, and 0 is found.
 
+#[tactic(auto, unfolding(crate::specs::Rows::load))]
 pub fn load(store: &[u32; WORDS], position: u16) -> u32
     ensures { result ≡ load store.now position }
 {
-    let k = wide(position);
-    if k < WORDS { store[k] } else { 0 }
+    store.get(usize::from(position)).copied().unwrap_or(0)
 }
 
+#[tactic(auto, unfolding(crate::specs::Rows::save))]
 pub fn save(store: &mut [u32; WORDS], position: u16, word: u32)
     ensures { store.new ≡ save store.old position word }
 {
-    let k = wide(position);
-    if WORDS <= k {
-        return;
+    // Not by `get_mut`: what the store holds after that loan is not proved to be the list with one word set (goal `returns-in-Some`).
+    let k = usize::from(position);
+    if k < WORDS {
+        store[k] = word;
     }
-    store[k] = word;
 }
 
-// One signal of one task's instance. `kind` is the part READS or WRITES.
+// One signal of one task's instance.
 
-fn lacks(numbers: &[u16; NUMBERS], kind: usize, task: usize, signal: usize) -> bool
-    requires { (kind ≤ last_kind) × (task < most_tasks) × (signal < most_signals) }
-    ensures { result ≡ lacks numbers.now kind task signal }
+fn lacks(numbers: &[u16; NUMBERS], kind: Kind, task: usize, signal: usize) -> bool
+    requires { (task < most_tasks) × (signal < most_signals) }
+    ensures { result ≡ lacks numbers.now (part_of kind) task signal }
 {
-    numbers[kind + task * MOST_SIGNALS + signal] == NONE
+    numbers[kind.part() + task * MOST_SIGNALS + signal] == NONE
 }
 
 // Where the instance has the signal. A fit state has no use past the list; there 0 is found.
-fn use_of(numbers: &[u16; NUMBERS], kind: usize, task: usize, instance: u16, signal: usize) -> u16
-    requires { (kind ≤ last_kind) × (task < most_tasks) × (signal < most_signals) }
-    ensures { result ≡ use_of numbers.now kind task instance signal }
+#[tactic(auto, unfolding(crate::specs::Rows::use_of))]
+fn use_of(numbers: &[u16; NUMBERS], kind: Kind, task: usize, instance: u16, signal: usize) -> u16
+    requires { (task < most_tasks) × (signal < most_signals) }
+    ensures { result ≡ use_of numbers.now (part_of kind) task instance signal }
 {
-    let k = wide(numbers[kind + task * MOST_SIGNALS + signal]) + wide(instance);
+    let first = numbers[kind.part() + task * MOST_SIGNALS + signal];
+    let k = usize::from(first) + usize::from(instance);
     if k < MOST_USES { numbers[USES + k] } else { 0 }
 }
 
+#[tactic(auto, unfolding(crate::specs::Rows::publish_one))]
 fn publish_one(numbers: &mut [u16; NUMBERS], task: usize, instance: u16, signal: usize)
     requires { (task < most_tasks) × (signal < most_signals) }
     ensures { numbers.new ≡ publish_one task instance signal numbers.old }
 {
-    if lacks(numbers, WRITES, task, signal) {
+    if lacks(numbers, Kind::Writes, task, signal) {
         return;
     }
-    numbers[HELD + signal] = use_of(numbers, WRITES, task, instance, signal);
+    numbers[HELD + signal] = use_of(numbers, Kind::Writes, task, instance, signal);
 }
 
+#[tactic(auto, unfolding(crate::specs::Rows::fill_one))]
 fn fill_one<'a>(
     numbers: &'a [u16; NUMBERS],
     words: &'a [u32; MOST_SIGNALS],
@@ -317,16 +305,17 @@ fn fill_one<'a>(
     requires { (task < most_tasks) × (signal < most_signals) }
     ensures { store.new ≡ fill_one numbers.now words.now task instance signal store.old }
 {
-    if lacks(numbers, WRITES, task, signal) {
+    if lacks(numbers, Kind::Writes, task, signal) {
         return;
     }
     save(
         store,
-        use_of(numbers, WRITES, task, instance, signal),
+        use_of(numbers, Kind::Writes, task, instance, signal),
         words[signal],
     );
 }
 
+#[tactic(auto, unfolding(crate::specs::Rows::carry_one))]
 fn carry_one(numbers: &[u16; NUMBERS], store: &mut [u32; WORDS], signal: usize)
     requires { signal < most_signals }
     ensures { store.new ≡ carry_one numbers.now signal store.old }
@@ -335,6 +324,7 @@ fn carry_one(numbers: &[u16; NUMBERS], store: &mut [u32; WORDS], signal: usize)
     save(store, numbers[CARRIED + signal], word);
 }
 
+#[tactic(auto, unfolding(crate::specs::Rows::release_one))]
 fn release_one(numbers: &mut [u16; NUMBERS], signal: usize)
     requires { signal < most_signals }
     ensures { numbers.new ≡ release_one signal numbers.old }
@@ -342,8 +332,9 @@ fn release_one(numbers: &mut [u16; NUMBERS], signal: usize)
     numbers[HELD + signal] = numbers[CARRIED + signal];
 }
 
-// Every signal of one task's instance.
+// Every signal of one task's instance. One loop for both would take the step as a closure, and its contract, by `FoldsTo` over the closure's calls, is longer than these two.
 
+#[tactic(auto, using(crate::proofs::Folds::acted))]
 fn publish_row(numbers: &mut [u16; NUMBERS], task: usize, instance: u16)
     requires { task < most_tasks }
     ensures { numbers.new ≡ up_to most_signals (publish_one task instance) numbers.old }
@@ -353,6 +344,7 @@ fn publish_row(numbers: &mut [u16; NUMBERS], task: usize, instance: u16)
     }
 }
 
+#[tactic(auto, using(crate::proofs::Folds::acted))]
 fn fill_row<'a>(
     numbers: &'a [u16; NUMBERS],
     words: &'a [u32; MOST_SIGNALS],
@@ -370,13 +362,12 @@ fn fill_row<'a>(
 
 // One task: the instance that closes or opens, if one does.
 
-fn publish_task(numbers: &mut [u16; NUMBERS], task: usize, closes: Instance)
+fn publish_task(numbers: &mut [u16; NUMBERS], task: usize, closes: Option<u16>)
     requires { task < most_tasks }
     ensures { numbers.new ≡ at_instance (publish_one task) closes numbers.old }
 {
-    match closes {
-        Instance::At(i) => publish_row(numbers, task, i),
-        Instance::Nothing => {}
+    if let Some(i) = closes {
+        publish_row(numbers, task, i);
     }
 }
 
@@ -385,19 +376,19 @@ fn fill_task<'a>(
     words: &'a [u32; MOST_SIGNALS],
     store: &mut [u32; WORDS],
     task: usize,
-    opens: Instance,
+    opens: Option<u16>,
 )
     requires { task < most_tasks }
     ensures { store.new ≡ at_instance (fill_one numbers.now words.now task) opens store.old }
 {
-    match opens {
-        Instance::At(i) => fill_row(numbers, words, store, task, i),
-        Instance::Nothing => {}
+    if let Some(i) = opens {
+        fill_row(numbers, words, store, task, i);
     }
 }
 
 // All tasks, all signals.
 
+#[tactic(auto, using(crate::proofs::Folds::acted), unfolding(crate::specs::Rows::published))]
 pub fn publish_all(numbers: &mut [u16; NUMBERS])
     ensures { numbers.new ≡ published numbers.old }
 {
@@ -407,6 +398,7 @@ pub fn publish_all(numbers: &mut [u16; NUMBERS])
     }
 }
 
+#[tactic(auto, using(crate::proofs::Folds::acted), unfolding(crate::specs::Rows::openings))]
 pub fn open_all<'a>(
     numbers: &'a [u16; NUMBERS],
     defaults: &'a [u32; MOST_SIGNALS],
@@ -415,11 +407,11 @@ pub fn open_all<'a>(
     ensures { store.new ≡ openings numbers.now defaults.now store.old }
 {
     for t in 0..MOST_TASKS {
-        let opens = opening(numbers, t);
-        fill_task(numbers, defaults, store, t, opens);
+        fill_task(numbers, defaults, store, t, opening(numbers, t));
     }
 }
 
+#[tactic(auto, using(crate::proofs::Folds::acted), unfolding(crate::specs::Rows::copies))]
 pub fn carry_all(numbers: &[u16; NUMBERS], store: &mut [u32; WORDS])
     ensures { store.new ≡ copies numbers.now store.old }
 {
@@ -428,6 +420,7 @@ pub fn carry_all(numbers: &[u16; NUMBERS], store: &mut [u32; WORDS])
     }
 }
 
+#[tactic(auto, using(crate::proofs::Folds::acted), unfolding(crate::specs::Rows::released))]
 pub fn release_all(numbers: &mut [u16; NUMBERS])
     ensures { numbers.new ≡ released numbers.old }
 {
@@ -437,11 +430,12 @@ pub fn release_all(numbers: &mut [u16; NUMBERS])
 }
 
 // The tick moves on by one; at H the copies are made, the carried values stand again, and the tick becomes 0.
+#[tactic(auto, unfolding(crate::specs::Rows::advanced))]
 pub fn advance(numbers: &mut [u16; NUMBERS], store: &mut [u32; WORDS])
     ensures { (numbers.new ≡ (advanced numbers.old store.old).numbers) × (store.new ≡ (advanced numbers.old store.old).store) }
 {
-    let next = wide(numbers[TICK]) + 1;
-    if next < wide(numbers[HYPER]) {
+    let next = usize::from(numbers[TICK]) + 1;
+    if next < usize::from(numbers[HYPER]) {
         numbers[TICK] = next as u16;
         return;
     }
@@ -451,21 +445,18 @@ pub fn advance(numbers: &mut [u16; NUMBERS], store: &mut [u32; WORDS])
 }
 
 // Where a task finds a signal now: no such access is said before outside its window.
-pub fn locate(numbers: &[u16; NUMBERS], kind: usize, task: usize, signal: usize) -> Place
-    requires { kind ≤ last_kind }
-    ensures { result ≡ place_of numbers.now kind task signal }
+#[tactic(auto, unfolding(crate::specs::Rows::place_of, rules::specs::Words::when))]
+pub fn locate(
+    numbers: &[u16; NUMBERS],
+    kind: Kind,
+    task: usize,
+    signal: usize,
+) -> Result<u16, Refusal>
+    ensures { result ≡ place_of numbers.now (part_of kind) task signal }
 {
-    if MOST_TASKS <= task {
-        return Place::NoAccess;
+    if MOST_TASKS <= task || MOST_SIGNALS <= signal || lacks(numbers, kind, task, signal) {
+        return Err(Refusal::NoAccess);
     }
-    if MOST_SIGNALS <= signal {
-        return Place::NoAccess;
-    }
-    if lacks(numbers, kind, task, signal) {
-        return Place::NoAccess;
-    }
-    match inside(numbers, task) {
-        Instance::At(i) => Place::At(use_of(numbers, kind, task, i, signal)),
-        Instance::Nothing => Place::Outside,
-    }
+    let i = inside(numbers, task).ok_or(Refusal::Outside)?;
+    Ok(use_of(numbers, kind, task, i, signal))
 }

@@ -5,7 +5,7 @@ use mathlib.Core.Logic.{◌↔◌}
 use mathlib.Core.Path.{◌≡◌, refl, sym, ap, ◌∙◌}
 use Prim.Native.Nat.{ℕ, ◌≤◌}
 use native.Mathlib.Omega.{arith}
-use lib.ListN.{length}
+use lib.ListN.{length, take}
 use Rattle.rules.specs.Windows.{Table, hyper}
 use Rattle.rules.specs.Values.{by}
 use Rattle.rules.specs.Table.{Fits}
@@ -18,8 +18,10 @@ use Rattle.theory.specs.Sweep.{events, acted, sweep, Counted}
 use Rattle.theory.proofs.Check.{every_at, every_is}
 use Rattle.theory.proofs.Sums.{length_is}
 use Rattle.theory.proofs.Swept.{sweeps_exact}
+use Rattle.events.specs.declared.Events.{Events}
 use Rattle.events.specs.Order.{tasks_table, ordered}
 use Rattle.events.proofs.Alone.{fits_alone}
+use Rattle.std.proofs.Math.Seq.{take-append_seam}
 use Rattle.sweep.specs.Pass.{grid_table, all_swept, InspectsAll}
 
 module _ (tasks : Tasks) (signals : Signals) (grid : Grid) (bytes : List ℕ) where
@@ -47,11 +49,11 @@ module _ (tasks : Tasks) (signals : Signals) (grid : Grid) (bytes : List ℕ) wh
       same s = ap (λ E. (sweep (grid_table tasks grid) E s).right) schedule_alone ∙ ap (λ p. p.right) (sweep_alone (schedule_in tab bytes) s)
 
   -- what the check asks for is what an accepted table and right records give
-  pub inspects_all : Fits tab → Counted tab (schedule_in tab bytes) → schedule_length tab ≤ length bytes → (h : ℕ) (list : List ℕ) (count : ℕ) → h ≡ hyper tab
-      → list ≡ (ordered (tasks_table tasks)).list → count ≡ (ordered (tasks_table tasks)).count → InspectsAll tasks grid h tab.signals list count bytes
+  pub inspects_all : Fits tab → Counted tab (schedule_in tab bytes) → schedule_length tab ≤ length bytes → (h : ℕ) {turns : Events} → h ≡ hyper tab
+      → turns ≡ ordered (tasks_table tasks) → InspectsAll tasks grid h tab.signals (take turns.count turns.list) bytes
   unfolding hyper writers_below readers_below size_of start_of schedule_in schedule_length
-  inspects_all F C w h list count e l n = record {
-    given = record { fits = fits_alone tasks signals grid F grid; listed = l; counted = n };
+  inspects_all F C w h e l = record {
+    given = record { fits = fits_alone tasks signals grid F grid; listed = ap (λ (o : Events). take o.count o.list) l ∙ take-append_seam (events (tasks_table tasks)) _ };
     period = e;
     few = F.few_signals;
     whole = omega arith;

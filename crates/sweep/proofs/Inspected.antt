@@ -4,13 +4,13 @@ use mathlib.Core.List.{List}
 use mathlib.Core.Logic.{◌⊎◌, inl, inr, ⊎_elim}
 use mathlib.Core.Path.{◌≡◌, refl, sym, ap, ◌∙◌}
 use Prim.Native.Nat.{ℕ, zero, suc, ◌+◌, ◌*◌, ◌-◌, ◌/◌, ◌%◌, ◌≤◌, ◌<◌}
-use native.Mathlib.Nat.{div-div-eq-div-mul, mod-lt, not-suc-le-zero}
+use native.Mathlib.Nat.{div-div-eq-div-mul, mod-lt}
 use native.Mathlib.Numerals.{add-one}
 use native.Mathlib.Omega.{arith}
 use lib.Arith.{mod-mul}
 use lib.Dec.{eqb}
-use lib.ListN.{length, get_or, set, drop, get_or-append, length-set}
-use lib.Seq.{drop-cons, drop-length, get_or-set_same, get_or-set_other}
+use lib.ListN.{length, get_or, drop}
+use lib.Seq.{drop-cons, drop-length}
 use borrow.Author.Tests.{eqb-true, eqb-false}
 use Rattle.rules.specs.Words.{total, times}
 use Rattle.rules.specs.Windows.{Table, opens, closes, instance, instances, hyper}
@@ -19,15 +19,15 @@ use Rattle.rules.specs.Schedule.{Schedule}
 use Rattle.rules.specs.Bytes.{wi, ri, writers_below, readers_below, size_of, start_of, schedule_in}
 use Rattle.rules.specs.Reading.{Grid, cell_at, task_of, no_signals, writes_in, reads_in}
 use Rattle.rules.specs.declared.Tasks.{Tasks}
-use Rattle.theory.specs.Sweep.{Pass, task_in, tick_in, is_opening, opened, closed, acted, reader_opens, writer_opens, writer_closes, handled, events, through, never, none_held, sweep}
+use Rattle.theory.specs.Sweep.{Pass, task_in, tick_in, is_opening, opened, closed, acted, reader_opens, writer_opens, writer_closes, handled, events, through, sweep}
 use Rattle.theory.proofs.Tests.{split, holds, not_both}
 use Rattle.theory.proofs.Time.{instance_is, instance_lt, closes_le}
 use Rattle.theory.proofs.Swept.{opening_digits, closing_digits}
 use Rattle.theory.proofs.Lists.{all_at}
-use Rattle.theory.proofs.Events.{IsEvent, events_all, events_up, few_events}
-use Rattle.events.specs.Order.{tasks_table, most_events}
+use Rattle.theory.proofs.Events.{IsEvent, events_all}
+use Rattle.events.specs.Order.{tasks_table}
 use Rattle.events.proofs.Alone.{events_alone}
-use Rattle.sweep.specs.Pass.{grid_table, pass_of, may_read, may_write, element_at, Inside, Writes, read_of, wrote_of, closed_of, handled_of, Handles, Inspects, AreActs}
+use Rattle.sweep.specs.Pass.{grid_table, pass_of, unswept, has, may_read, may_write, element_at, Inside, Writes, read_of, wrote_of, closed_of, handled_of, Handles, Inspects, AreActs}
 use Rattle.sweep.specs.declared.Places.{Places}
 use Rattle.sweep.specs.declared.Standing.{Standing}
 use Rattle.sweep.specs.declared.Turn.{Turn}
@@ -67,31 +67,14 @@ module _ (tab : Table) (s : ℕ) where
   unfolding start_of size_of readers_below total
   reader_inside k i h w l = omega (arith, among (tab.reads s) k i h w l)
 
--- ---- what is nothing for the signal
-
-module _ (grid : Grid) (s : ℕ) where
-  pub acts_start : (acts : List ℕ) → length acts ≡ 2 * most_tasks → AreActs grid s 0 acts
-  acts_start acts e = record { closing = λ k h. absurd (not-suc-le-zero h); opening = λ k h. absurd (not-suc-le-zero h); size = e }
-
-  pub acts_more : (k : ℕ) (acts : List ℕ) → k < most_tasks → AreActs grid s k acts → AreActs grid s (k + 1) (set (set acts k (cell_at grid k s / 2)) (most_tasks + k) (cell_at grid k s))
-  acts_more k acts h A =
-      let n = length-set acts k (cell_at grid k s / 2) in
-      record {
-        closing = λ j l. let far : ¬ (j ≡ most_tasks + k) = λ e. let z : ⊥ = omega arith in z in
-            rw (get_or-set_other (set acts k (cell_at grid k s / 2)) (most_tasks + k) j (cell_at grid k s) 0 far)
-            (split (eqb j k)
-            (λ q. rw (eqb-true j k q, get_or-set_same acts k (cell_at grid k s / 2) 0 (omega (arith, A.size))))
-            (λ q. let z = eqb-false j k q in rw (get_or-set_other acts k j (cell_at grid k s / 2) 0 z) (A.closing j (omega arith))));
-        opening = λ j l. split (eqb j k)
-            (λ q. rw (eqb-true j k q, get_or-set_same (set acts k (cell_at grid k s / 2)) (most_tasks + k) (cell_at grid k s) 0 (omega (arith, A.size))))
-            (λ q. let z = eqb-false j k q in
-            let far : ¬ (most_tasks + j ≡ most_tasks + k) = λ e. z (omega arith) in
-            let low : ¬ (most_tasks + j ≡ k) = λ e. let w : ⊥ = omega arith in w in
-            rw (get_or-set_other (set acts k (cell_at grid k s / 2)) (most_tasks + k) (most_tasks + j) (cell_at grid k s) 0 far, get_or-set_other acts k (most_tasks + j) (cell_at grid k s / 2) 0 low) (A.opening j (omega arith)));
-        size = length-set (set acts k (cell_at grid k s / 2)) (most_tasks + k) (cell_at grid k s) ∙ n ∙ A.size;
-      }
-
 -- ---- an opening or closing
+
+-- what the test of a cell says
+pub has_read : (cell : ℕ) {r b : Bool} → r ≡ has cell 1 → r ≡ b → may_read cell ≡ b
+has_read cell e q = let d : cell / 1 ≡ cell = omega arith in ap (λ (n : ℕ). eqb (n % 2) 1) (sym d) ∙ sym e ∙ q
+
+pub has_write : (cell : ℕ) {r b : Bool} → r ≡ has cell 2 → r ≡ b → may_write cell ≡ b
+has_write cell e q = sym e ∙ q
 
 -- two ways that leave the same element standing
 cond_current : (b : Bool) (p q : Pass) → p.current ≡ q.current → (cond b p q).current ≡ q.current
@@ -107,7 +90,7 @@ module _ (bytes : List ℕ) (p : Pass) (x : Turn) where
   unfolding closed_of
   closing_current h w = split (may_write x.cell) (λ q. rw q (w q).1) (λ q. rw q h)
 
-module _ (tasks : Tasks) (grid : Grid) (s : ℕ) (list : List ℕ) (count : ℕ) (places : Places) (bytes : List ℕ) (I : Inspects tasks grid s list count places bytes) where
+module _ (tasks : Tasks) (grid : Grid) (s : ℕ) (list : List ℕ) (places : Places) (bytes : List ℕ) (I : Inspects tasks grid s list places bytes) where
   abbrev tab : Table
   tab = grid_table tasks grid
 
@@ -242,44 +225,38 @@ module _ (tasks : Tasks) (grid : Grid) (s : ℕ) (list : List ℕ) (count : ℕ)
   same_events : events (tasks_table tasks) ≡ events tab
   same_events = sym (events_alone tasks no_signals grid)
 
-  event_at : (n : ℕ) → n < count → (n < length (events tab)) × (get_or list n 0 ≡ get_or (events tab) n 0)
-  event_at n h =
-      let c : count ≡ length (events tab) = I.given.counted ∙ ap length same_events in
-      let l : n < length (events tab) = omega arith in
-      (l, rw (I.given.listed, same_events) (get_or-append (events tab) _ 0 n l))
+  listed : list ≡ events tab
+  listed = I.given.listed ∙ same_events
 
-  pub is_event : (n : ℕ) → n < count → IsEvent tab (get_or list n 0)
-  is_event n h = let e = event_at n h in rw e.1 (all_at (IsEvent tab) 0 (events tab) (events_all tab I.given.fits) n e.0)
+  pub is_event : (n : ℕ) → n < length list → IsEvent tab (get_or list n 0)
+  is_event n h = rw listed (all_at (IsEvent tab) 0 (events tab) (events_all tab I.given.fits) n (omega (arith, ap length listed)))
 
-  pub pass_turn : (n : ℕ) (p : Pass) → n < count → through (handled tab E s) p (drop n (events tab)) ≡ through (handled tab E s) (handled tab E s p (get_or list n 0)) (drop (n + 1) (events tab))
+  pub pass_turn : (n : ℕ) (p : Pass) → n < length list → through (handled tab E s) p (drop n (events tab)) ≡ through (handled tab E s) (handled tab E s p (get_or list n 0)) (drop (n + 1) (events tab))
   unfolding through
-  pass_turn n p h = let e = event_at n h in rw (e.1, add-one n, drop-cons (events tab) n 0 e.0)
+  pass_turn n p h = rw (listed, add-one n, drop-cons (events tab) n 0 (omega (arith, ap length listed)))
 
-  pub pass_ends : (n : ℕ) (p : Pass) → n ≡ count → through (handled tab E s) p (drop n (events tab)) ≡ p
+  pub pass_ends : (n : ℕ) (p : Pass) → n ≡ length list → through (handled tab E s) p (drop n (events tab)) ≡ p
   unfolding through
-  pass_ends n p h = rw (h ∙ I.given.counted ∙ ap length same_events, drop-length (events tab))
+  pass_ends n p h = rw (h ∙ ap length listed, drop-length (events tab))
 
   -- one turn of the loop
-  abbrev pub Left : ℕ → List ℕ → Standing → Type 0
-  Left n held p = (p.current < most_elements) × (through (handled tab E s) (pass_of held p) (drop n (events tab)) ≡ sweep tab E s)
+  abbrev pub Left : ℕ → Standing → Type 0
+  Left n p = (p.current < most_elements) × (through (handled tab E s) (pass_of p) (drop n (events tab)) ≡ sweep tab E s)
 
-  pub pass_starts : Left 0 (set (none_held most_elements) 0 never) (record { right = true; current = 0; reach = 0 })
+  pub pass_starts : (p : Standing) → pass_of p ≡ unswept → Left 0 p
   unfolding sweep
-  pass_starts = (omega arith, refl)
+  pass_starts p e = (omega (arith, ap (λ (q : Pass). q.current) e), ap (λ q. through (handled tab E s) q (drop 0 (events tab))) e)
 
-  pub pass_next : (n : ℕ) (held kept acts : List ℕ) (p r : Standing) → n < count → AreActs grid s tasks.count acts → Left n held p
-      → (pass_of kept r ≡ handled_of bytes (get_or list n 0) (pass_of held p) (turn_at (get_or list n 0))) ⊎ ((get_or acts (get_or list n 0 % (2 * most_tasks)) 0 ≡ 0) × (pass_of kept r ≡ pass_of held p))
-      → Left (n + 1) kept r
-  pass_next n held kept acts p r h A l c =
+  pub pass_next : (n : ℕ) (acts : List ℕ) (p r : Standing) → n < length list → AreActs grid s tasks.count acts → Left n p
+      → (pass_of r ≡ handled_of bytes (get_or list n 0) (pass_of p) (turn_at (get_or list n 0))) ⊎ ((get_or acts (get_or list n 0 % (2 * most_tasks)) 0 ≡ 0) × (r ≡ p))
+      → Left (n + 1) r
+  pass_next n acts p r h A l c =
       let x = is_event n h in
-      let e : pass_of kept r ≡ handled tab E s (pass_of held p) (get_or list n 0) =
-      ⊎_elim (λ q. q ∙ handled_is (get_or list n 0) (pass_of held p) x) (λ q. q.1 ∙ sym (skipped (get_or list n 0) (pass_of held p) acts x A q.0)) c in (
-        omega (arith, ap (λ (q : Pass). q.current) e, current_low (get_or list n 0) (pass_of held p) x l.0),
-        ap (λ q. through (handled tab E s) q (drop (n + 1) (events tab))) e ∙ sym (pass_turn n (pass_of held p) h) ∙ l.1,
+      let e : pass_of r ≡ handled tab E s (pass_of p) (get_or list n 0) =
+      ⊎_elim (λ q. q ∙ handled_is (get_or list n 0) (pass_of p) x) (λ q. ap pass_of q.1 ∙ sym (skipped (get_or list n 0) (pass_of p) acts x A q.0)) c in (
+        omega (arith, ap (λ (q : Pass). q.current) e, current_low (get_or list n 0) (pass_of p) x l.0),
+        ap (λ q. through (handled tab E s) q (drop (n + 1) (events tab))) e ∙ sym (pass_turn n (pass_of p) h) ∙ l.1,
       )
 
-  pub pass_right : (n : ℕ) (held : List ℕ) (p : Standing) → n ≡ count → Left n held p → p.right ≡ (sweep tab E s).right
-  pass_right n held p h l = ap (λ (q : Pass). q.right) (sym (pass_ends n (pass_of held p) h) ∙ l.1)
-
-  pub count_within : count ≤ most_events
-  count_within = omega (arith, I.given.counted, ap length same_events, few_events tab I.given.fits most_tasks (most_tasks + hyper tab * (2 * most_tasks)) (events tab) (events_up tab I.given.fits) (events_all tab I.given.fits), I.given.fits.few_instances)
+  pub pass_right : (n : ℕ) (p : Standing) → n ≡ length list → Left n p → p.right ≡ (sweep tab E s).right
+  pass_right n p h l = ap (λ (q : Pass). q.right) (sym (pass_ends n (pass_of p) h) ∙ l.1)

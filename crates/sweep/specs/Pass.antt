@@ -1,13 +1,13 @@
 -- The pass over openings and closings by what the code has at hand: the lent bytes, the grid's cell, where a task's elements begin. Assumes nothing.
-use Rattle.std.specs.Prelude.{ℕ, suc, ◌+◌, ◌*◌, ◌-◌, ◌/◌, ◌%◌, ◌≤◌, ◌<◌, Bool, true, false, cond, List, ◌≡◌, T, eqb, length, get_or}
+use Rattle.std.specs.Prelude.{ℕ, suc, ◌+◌, ◌*◌, ◌-◌, ◌/◌, ◌%◌, ◌≤◌, ◌<◌, Bool, true, false, cond, List, ◌≡◌, T, eqb, length, get_or, set}
 use Rattle.rules.specs.Words.{total, times, every}
 use Rattle.rules.specs.Windows.{Table, instances, hyper}
 use Rattle.rules.specs.Table.{most_tasks, most_signals, most_elements, longest, Fits}
 use Rattle.rules.specs.Bytes.{wi, ri, size_of, start_of, schedule_in}
 use Rattle.rules.specs.Reading.{Grid, table_of, no_signals, cell_at, writes_in}
 use Rattle.rules.specs.declared.Tasks.{Tasks}
-use Rattle.theory.specs.Sweep.{Pass, is_opening, reading, writing, publishing, sweep}
-use Rattle.events.specs.Order.{tasks_table, ordered}
+use Rattle.theory.specs.Sweep.{Pass, is_opening, reading, writing, publishing, never, none_held, events, sweep}
+use Rattle.events.specs.Order.{tasks_table}
 use Rattle.sweep.specs.declared.Places.{Places}
 use Rattle.sweep.specs.declared.Standing.{Standing}
 use Rattle.sweep.specs.declared.Turn.{Turn}
@@ -16,15 +16,23 @@ use Rattle.sweep.specs.declared.Turn.{Turn}
 abbrev pub grid_table : Tasks → Grid → Table
 grid_table tasks grid = table_of tasks no_signals grid
 
--- the array of until-ticks, and the rest
-abbrev pub pass_of : List ℕ → Standing → Pass
-pass_of held p = record { right = p.right; held = held; current = p.current; reach = p.reach }
+-- what the code keeps of the pass
+abbrev pub pass_of : Standing → Pass
+pass_of p = record { right = p.right; held = p.held; current = p.current; reach = p.reach }
+
+-- the pass before the first opening
+abbrev pub unswept : Pass
+unswept = record { right = true; held = set (none_held most_elements) 0 never; current = 0; reach = 0 }
+
+-- the cell has the right 1, to read, or 2, to write
+abbrev pub has : ℕ → ℕ → Bool
+has cell right = eqb (cell / right % 2) 1
 
 abbrev pub may_read : ℕ → Bool
 may_read cell = eqb (cell % 2) 1
 
 abbrev pub may_write : ℕ → Bool
-may_write cell = eqb (cell / 2 % 2) 1
+may_write cell = has cell 2
 
 -- the element of instance i, where that of instance 0 is at `first`: records have 7 bytes
 abbrev pub element_at : List ℕ → ℕ → ℕ → ℕ
@@ -57,10 +65,6 @@ module _ (bytes : List ℕ) where
   unfoldable pub closed_of : Pass → Turn → Pass
   closed_of p x = cond (may_write x.cell) (publishing p (element_at bytes x.writers ((x.tick - 1) / x.task.period)) x.tick) p
 
-  -- the until-ticks are as they were
-  abbrev pub IsRead : Standing → Turn → Standing → Type 0
-  IsRead p x r = (held : List ℕ) → pass_of held r ≡ read_of (pass_of held p) x
-
   unfoldable pub handled_of : ℕ → Pass → Turn → Pass
   handled_of event p x = cond (is_opening event) (wrote_of (read_of p x) x) (closed_of p x)
 
@@ -80,7 +84,7 @@ pub record AreActs (grid : Grid) (s n : ℕ) (acts : List ℕ) : Type 0 where
 
 -- how many records a task has as a reader (1), or as a writer (2), of a signal
 abbrev pub records_of : (cell right instances : ℕ) → ℕ
-records_of cell right instances = times (eqb (cell / right % 2) 1) instances
+records_of cell right instances = times (has cell right) instances
 
 -- the longest schedule, and a place past it and one signal's records
 abbrev pub longest_bytes : ℕ
@@ -112,22 +116,21 @@ module _ (tasks : Tasks) (grid : Grid) (s : ℕ) where
 -- ---- what a check starts from
 
 -- an accepted table's tasks and grid, and its openings and closings in their order
-pub record Given (tasks : Tasks) (grid : Grid) (events : List ℕ) (count : ℕ) : Type 0 where
+pub record Given (tasks : Tasks) (grid : Grid) (list : List ℕ) : Type 0 where
   pub fits : Fits (grid_table tasks grid)
-  pub listed : events ≡ (ordered (tasks_table tasks)).list
-  pub counted : count ≡ (ordered (tasks_table tasks)).count
+  pub listed : list ≡ events (tasks_table tasks)
 
 -- for signal s also its places, and bytes that reach to the end of its records
-pub record Inspects (tasks : Tasks) (grid : Grid) (s : ℕ) (events : List ℕ) (count : ℕ) (places : Places) (bytes : List ℕ) : Type 0 where
-  pub given : Given tasks grid events count
+pub record Inspects (tasks : Tasks) (grid : Grid) (s : ℕ) (list : List ℕ) (places : Places) (bytes : List ℕ) : Type 0 where
+  pub given : Given tasks grid list
   pub signal : s < most_signals
   pub placed : ArePlaces tasks grid s places
   pub whole : total (size_of (grid_table tasks grid)) (suc s) ≤ length bytes
   pub low : Low tasks grid s bytes
 
 -- for all signals the hyper-period, and bytes that reach to the end of their records
-pub record InspectsAll (tasks : Tasks) (grid : Grid) (h signals : ℕ) (events : List ℕ) (count : ℕ) (bytes : List ℕ) : Type 0 where
-  pub given : Given tasks grid events count
+pub record InspectsAll (tasks : Tasks) (grid : Grid) (h signals : ℕ) (list : List ℕ) (bytes : List ℕ) : Type 0 where
+  pub given : Given tasks grid list
   pub period : h ≡ hyper (grid_table tasks grid)
   pub few : signals ≤ most_signals
   pub whole : total (size_of (grid_table tasks grid)) signals ≤ length bytes

@@ -1,14 +1,19 @@
 -- Rule 11: the pairs of writers that the code compares decide what rules says of all their instances, and the search finds the lowest signal.
-use mathlib.Core.Path.{◌≡◌, refl, sym, ap, ◌∙◌}
+use mathlib.Core.Path.{◌≡◌, refl, sym, ap, subst, ◌∙◌}
 use mathlib.Core.Bool.{Bool, true, false, not, ◌||◌}
-use mathlib.Core.Option.{none, some}
-use Prim.Native.Nat.{ℕ, ◌≤◌, ◌<◌}
+use Rattle.std.specs.Prelude as Prelude
+use Rattle.std.specs.Prelude.{Some, None, MatchBool, MatchOption}
+use Rattle.std.specs.List.{range_with_len, AllWithin, HoldsAt}
+use Rattle.std.proofs.lemmas.List.FromFn.{get_or-range_with_len, length-range_with_len}
+use lib.ListN.{length, get_or}
+use mathlib.Core.Option.{Option, none, some}
+use Prim.Native.Nat.{ℕ, ◌≤◌, ◌<◌, zero-le}
 use native.Mathlib.Nat.{lt_trans}
 use native.Mathlib.Decide.{dec_lt}
 use native.Mathlib.Omega.{arith}
 use lib.Dec.{T, eqb}
 use borrow.Author.Tests.{eq-eqb, eqb-true}
-use Rattle.rules.specs.Words.{every, lowest}
+use Rattle.rules.specs.Words.{every, lowest, maybe}
 use Rattle.rules.specs.Windows.{Table, closes}
 use Rattle.rules.specs.Table.{single}
 use Rattle.rules.specs.Reading.{Grid, writes_in}
@@ -30,15 +35,17 @@ every_fails n k p h e = sym (no_test (every n p) (λ a. not_both (every_at n p a
 pub every_holds : (n : ℕ) (p : ℕ → Bool) → ((k : ℕ) → k < n → p k ≡ true) → true ≡ every n p
 every_holds n p h = sym (every_is n p h)
 
--- a writer that fails, one that passes, and who is no writer
-pub writer_fails : {w p : Bool} → w ≡ true → p ≡ false → (not w || p) ≡ false
-writer_fails {w} {p} a b = rw (a, b) refl
+number_at : (n k : ℕ) → k < n → get_or (range_with_len 0 n) k 0 ≡ k
+number_at n k l = omega (arith, get_or-range_with_len 0 n k 0 l)
 
-pub writer_passes : {w p : Bool} → w ≡ true → p ≡ true → (not w || p) ≡ true
-writer_passes {w} {p} a b = rw (a, b) refl
-
-pub no_writer : {w : Bool} (p : Bool) → w ≡ false → (not w || p) ≡ true
-no_writer p a = rw a refl
+-- what `all` says of the numbers below n
+pub all_is_every : (p : ℕ → Bool) (n : ℕ) (r : Bool)
+    → MatchBool r (AllWithin (λ k. p k ≡ true) (range_with_len 0 n) 0 (length (range_with_len 0 n))) ((k : ℕ) × (k < length (range_with_len 0 n)) × HoldsAt (λ k. p k ≡ false) (range_with_len 0 n) k)
+    → r ≡ every n p
+all_is_every p n true h = every_holds n p (λ k l. subst (λ (x : ℕ). p x ≡ true) (number_at n k l) (h k 0 zero-le (rw (length-range_with_len 0 n) l)))
+all_is_every p n false (k, l, h) =
+    let m : k < n = rw (length-range_with_len 0 n) at l in
+    every_fails n k p m (subst (λ (x : ℕ). p x ≡ false) (number_at n k m) (h 0))
 
 -- ---- no two writers meet just where no two of their instances publish at one tick
 
@@ -106,33 +113,25 @@ pub lowest_none : (p : ℕ → Bool) (n : ℕ) → ((j : ℕ) → j < n → p j 
 lowest_none p n f = split_option (lowest p n) (λ o. o) (λ j o. let (a, b, c) = some_below p n j o in absurd (not_both b (f j a)))
 
 module _ (tasks : Tasks) (signals : ℕ) (grid : Grid) where
-  pub clash_found : (s : ℕ) → s < signals → ((r : ℕ) → r < s → publish_apart tasks (writes_in grid r) ≡ true) → publish_apart tasks (writes_in grid s) ≡ false → s ≡ first_clash tasks signals grid
-  unfolding first_clash
-  clash_found s h f e = rw (lowest_is (λ s. not (publish_apart tasks (writes_in grid s))) signals s h (ap not e) (λ r l. ap not (f r l))) refl
+  abbrev pub Apart : ℕ → Type 0
+  Apart s = publish_apart tasks (writes_in grid s) ≡ true
 
-  pub no_clash : ((r : ℕ) → r < signals → publish_apart tasks (writes_in grid r) ≡ true) → signals ≡ first_clash tasks signals grid
-  unfolding first_clash
-  no_clash f = rw (lowest_none (λ s. not (publish_apart tasks (writes_in grid s))) signals (λ r l. ap not (f r l))) refl
+  abbrev pub Clash : ℕ → Type 0
+  Clash s = publish_apart tasks (writes_in grid s) ≡ false
 
-  module _ (w : AllWindowed tasks) (s : ℕ) (e : s ≡ first_clash tasks signals grid) where
-    apart_single : (r : ℕ) → publish_apart tasks (writes_in grid r) ≡ single (timed tasks signals grid) r
+  -- a search of the signals in their order
+  pub clash_found : (o : Prelude.Option ℕ) → MatchOption o ((s : ℕ) → 0 ≤ s → s < signals → Apart s) (λ s. (0 ≤ s) × (s < signals) × Clash s × ((r : ℕ) → 0 ≤ r → r < s → Apart r)) → o ≡ first_clash tasks signals grid
+  unfolding first_clash
+  clash_found None f = rw (lowest_none (λ s. not (publish_apart tasks (writes_in grid s))) signals (λ r l. ap not (f r zero-le l))) refl
+  clash_found (Some s) (z, h, e, f) = rw (lowest_is (λ s. not (publish_apart tasks (writes_in grid s))) signals s h (ap not e) (λ r l. ap not (f r zero-le l))) refl
+
+  module _ (w : AllWindowed tasks) where
+    -- what the code compares is what rules asks
+    same_search : lowest (λ s. not (publish_apart tasks (writes_in grid s))) signals ≡ lowest (λ s. not (single (timed tasks signals grid) s)) signals
     unfolding publish_apart apart_below
-    apart_single r = apart_is (timed tasks signals grid) w r
+    same_search = λ i. lowest (λ s. not (apart_is (timed tasks signals grid) w s i)) signals
 
     -- what the search gave, in the words of rules
-    pub clash_some : s < signals → lowest (λ r. not (single (timed tasks signals grid) r)) signals ≡ some s
+    pub clash_is : first_clash tasks signals grid ≡ maybe (lowest (λ s. not (single (timed tasks signals grid) s)) signals) None (λ s. Some s)
     unfolding first_clash
-    clash_some h =
-        split_option (lowest (λ r. not (publish_apart tasks (writes_in grid r))) signals)
-        (λ o. absurd (let z : s ≡ signals = e ∙ rw o refl in omega arith))
-        (λ k o.
-        let z : s ≡ k = e ∙ rw o refl in
-        let (a, b, c) = some_below _ signals k o in
-        lowest_is _ signals s h (ap not (sym (apart_single s)) ∙ rw z b) (λ j l. ap not (sym (apart_single j)) ∙ c j (omega arith)))
-
-    pub clash_none : signals ≤ s → lowest (λ r. not (single (timed tasks signals grid) r)) signals ≡ none
-    unfolding first_clash
-    clash_none h =
-        split_option (lowest (λ r. not (publish_apart tasks (writes_in grid r))) signals)
-        (λ o. lowest_none _ signals (λ j l. ap not (sym (apart_single j)) ∙ none_below _ signals o j l))
-        (λ k o. absurd (let z : s ≡ k = e ∙ rw o refl in let (a, b, c) = some_below _ signals k o in omega arith))
+    clash_is = ap (λ (o : Option ℕ). maybe o None (λ s. Some s)) same_search

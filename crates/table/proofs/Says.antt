@@ -1,11 +1,18 @@
 -- Rules 7 to 11, one after the other.
-use mathlib.Core.Path.{◌≡◌, refl, ap, subst, ◌∙◌}
+use Rattle.std.specs.Prelude as Prelude
+use Rattle.std.specs.Prelude.{Result, Ok, Err, Some, None}
+use Rattle.std.specs.Option.{ok_or}
+use Rattle.table.specs.Said.{hyper_or_0}
+use Rattle.rules.specs.declared.Refusal.{Refusal}
+use mathlib.Core.Option.{Option, none, some}
+use mathlib.Core.Path.{◌≡◌, refl, ap, sym, subst, ◌∙◌}
 use mathlib.Core.List.{[]}
 use mathlib.Core.Bool.{cond, not}
 use Prim.Native.Nat.{ℕ, ◌≤◌, ◌<◌}
 use native.Mathlib.Omega.{arith}
 use lib.Dec.{eqb, ltb}
 use borrow.Author.Tests.{eq-eqb, ne_eqb, lt-ltb, le-ltb}
+use Rattle.std.proofs.lemmas.Option.{none-some, same_Some}
 use Rattle.rules.specs.Words.{total, lowest, when, maybe}
 use Rattle.rules.specs.Windows.{Table, hyper, instances}
 use Rattle.rules.specs.Table.{longest, most_instances, most_uses, accesses_of, uses, single, every_writer}
@@ -15,12 +22,11 @@ use Rattle.rules.specs.Reading.{Grid, table_of, accepted_hyper}
 use Rattle.rules.specs.declared.Tasks.{Tasks}
 use Rattle.rules.specs.declared.Signals.{Signals}
 use Rattle.theory.proofs.Checked.{when_false}
-use Rattle.windows.specs.declared.Hyper.TheVariants.{Ticks, Above}
 use Rattle.windows.specs.Windowed.{AllWindowed}
 use Rattle.windows.specs.Forms.{hyper_of}
 use Rattle.windows.proofs.Periods.{IsHyper, hyper_is}
 use Rattle.table.specs.Forms.{timed, instances_in, uses_in, first_clash}
-use Rattle.table.proofs.Clashes.{clash_some, clash_none}
+use Rattle.table.proofs.Clashes.{clash_is}
 
 -- the answers do not hang on the defaults
 module _ (tasks : Tasks) (signals : Signals) (grid : Grid) where
@@ -34,6 +40,22 @@ module _ (tasks : Tasks) (signals : Signals) (grid : Grid) where
 
   pub accepted_free : accepted_hyper (table_of tasks signals grid) ≡ accepted_hyper (timed tasks signals.count grid)
   accepted_free = rw (defaults_free, hyper_free) refl
+
+-- what a search found, in the words of rules and of the code
+lowest_some : (o : Option ℕ) {s : ℕ} → maybe o None (λ k. Some k) ≡ Some s → o ≡ some s
+lowest_some none e = absurd (none-some _ e)
+lowest_some (some k) e = ap some (same_Some _ _ e)
+
+lowest_none : (o : Option ℕ) → maybe o None (λ k. Some k) ≡ None → o ≡ none
+lowest_none none e = refl
+lowest_none (some k) e = absurd (none-some _ (sym e))
+
+error_is : {h : ℕ} {x : Refusal} → Ok h ≡ Err x → ⊥
+error_is e = grind (arith, e)
+
+abbrev refusal : Result ℕ Refusal → Refusal
+refusal (Ok h) = Refusal.Unfit
+refusal (Err x) = x
 
 -- what is said of a table, with the hyper-period where that is `done`
 abbrev pub Said : Table → Told → ℕ → Type 0
@@ -95,20 +117,35 @@ module _ (tasks : Tasks) (signals : ℕ) (grid : Grid) (w : AllWindowed tasks) (
         judged tab (tell many_uses 0)
         (rw (short tab n (omega arith), le-ltb most_instances (total (instances tab) tasks.count) (omega (arith, instances_are)), lt-ltb most_uses (uses tab) (omega (arith, uses_are))) refl)
 
-    module _ (v : b ≤ most_uses) {s : ℕ} (c : s ≡ first_clash tasks signals grid) where
+    module _ (v : b ≤ most_uses) where
       found : table_says tab ≡ maybe (lowest (λ s. not (single tab s)) signals) (tell all_done 0) (λ s. tell two_publish s)
       found = few tab n (omega arith) (omega (arith, instances_are)) (omega (arith, uses_are))
 
-      pub says_clash : s < signals → Said tab (tell two_publish s) 0
-      says_clash g = judged tab (tell two_publish s) (rw (found, clash_some tasks signals grid w s c g) refl)
+      -- what the search for a clash found, as rules says it
+      abbrev said_of : Option ℕ → Told
+      said_of o = maybe o (tell all_done 0) (λ s. tell two_publish s)
 
-      pub says_done : signals ≤ s → Said tab (tell all_done 0) h
-      says_done g = let j = judged tab (tell all_done 0) (rw (found, clash_none tasks signals grid w s c g) refl) in (j.0, e ∙ j.1)
+      pub says_clash : {s : ℕ} → first_clash tasks signals grid ≡ Some s → Said tab (tell two_publish s) 0
+      says_clash {s} c = judged tab (tell two_publish s) (sym (found ∙ ap said_of (lowest_some _ (sym (clash_is tasks signals grid w) ∙ c))))
 
--- ---- the hyper-period found is that of rules
-module _ (tasks : Tasks) (signals : ℕ) (grid : Grid) where
-  pub hyper_ticks : {h : ℕ} → hyper_of tasks ≡ Ticks h → (h ≡ hyper (timed tasks signals grid)) × (h ≤ longest)
-  hyper_ticks {h} e = let (p, q) = subst (IsHyper (hyper (timed tasks signals grid))) e (hyper_is tasks (record { defaults = []; count = signals }) grid) in (p, omega arith)
+      pub says_done : first_clash tasks signals grid ≡ None → Said tab (tell all_done 0) h
+      says_done c = let j = judged tab (tell all_done 0) (sym (found ∙ ap said_of (lowest_none _ (sym (clash_is tasks signals grid w) ∙ c)))) in (j.0, e ∙ j.1)
 
-  pub hyper_above : hyper_of tasks ≡ Above → longest < hyper (timed tasks signals grid)
-  hyper_above e = subst (IsHyper (hyper (timed tasks signals grid))) e (hyper_is tasks (record { defaults = []; count = signals }) grid)
+-- ---- the hyper-period found is that of rules, and none is found where that is above the longest
+module _ (tasks : Tasks) (signals : ℕ) (grid : Grid) {o : Prelude.Option ℕ} (e : hyper_of tasks ≡ o) where
+  abbrev found_is : IsHyper (hyper (timed tasks signals grid)) o
+  found_is = subst (IsHyper (hyper (timed tasks signals grid))) e (hyper_is tasks (record { defaults = []; count = signals }) grid)
+
+  pub hyper_ticks : {h : ℕ} → ok_or o Refusal.LongHyper ≡ Ok h → (h ≡ hyper (timed tasks signals grid)) × (h ≤ longest)
+  hyper_ticks {h} q = go o found_is q
+    where
+      go : (o : Prelude.Option ℕ) → IsHyper (hyper (timed tasks signals grid)) o → ok_or o Refusal.LongHyper ≡ Ok h → (h ≡ hyper (timed tasks signals grid)) × (h ≤ longest)
+      go (Some r) (p, l) q = let z : r ≡ h = ap hyper_or_0 q in (sym z ∙ p, omega (arith, p, z))
+      go None l q = absurd (error_is (sym q))
+
+  pub hyper_above : {x : Refusal} → ok_or o Refusal.LongHyper ≡ Err x → (longest < hyper (timed tasks signals grid)) × (x ≡ Refusal.LongHyper)
+  hyper_above {x} q = go o found_is q
+    where
+      go : (o : Prelude.Option ℕ) → IsHyper (hyper (timed tasks signals grid)) o → ok_or o Refusal.LongHyper ≡ Err x → (longest < hyper (timed tasks signals grid)) × (x ≡ Refusal.LongHyper)
+      go (Some r) p q = absurd (error_is q)
+      go None l q = (l, sym (ap refusal q))

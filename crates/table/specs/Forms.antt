@@ -1,5 +1,5 @@
 -- What the code computes of a table whose records were read. Assumes nothing.
-use Rattle.std.specs.Prelude.{Bool, not, ◌||◌, [], ℕ, ◌+◌, ◌*◌, ◌/◌, ◌%◌, eqb}
+use Rattle.std.specs.Prelude.{Bool, not, ◌||◌, [], ℕ, ◌+◌, ◌*◌, ◌/◌, ◌%◌, eqb, Option, Some, None}
 use Rattle.rules.specs.Words.{total, every, lowest, maybe, bit}
 use Rattle.rules.specs.Euclid.{gcd_of}
 use Rattle.rules.specs.Windows.{Table}
@@ -36,6 +36,6 @@ apart_below tasks writes l = every l (λ k. not (writes k) || not (meets (task_o
 unfoldable pub publish_apart : Tasks → (ℕ → Bool) → Bool
 publish_apart tasks writes = every tasks.count (λ l. not (writes l) || apart_below tasks writes l)
 
--- the lowest signal of which two writers meet, or their number
-unfoldable pub first_clash : Tasks → ℕ → Grid → ℕ
-first_clash tasks signals grid = maybe (lowest (λ s. not (publish_apart tasks (writes_in grid s))) signals) signals (λ s. s)
+-- the lowest signal of which two writers meet
+unfoldable pub first_clash : Tasks → ℕ → Grid → Option ℕ
+first_clash tasks signals grid = maybe (lowest (λ s. not (publish_apart tasks (writes_in grid s))) signals) None (λ s. Some s)

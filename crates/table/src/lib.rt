@@ -7,10 +7,3 @@ mod reading;
 mod sums;
 
 pub use reading::{TableRead, read_table};
-
-// The answer, and the hyper-period of a table that is accepted, else 0.
-#[derive(Clone, Copy)]
-pub struct Judged {
-    pub answer: rules::Answer,
-    pub hyper: u32,
-}

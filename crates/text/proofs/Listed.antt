@@ -1,4 +1,5 @@
 -- The listing by what planning answered. Assumes nothing.
+use Rattle.std.specs.Prelude.{Result, Ok, Err}
 use Prim.Native.Nat.{ℕ}
 use mathlib.Core.Path.{◌≡◌, sym, ap, ◌∙◌}
 use mathlib.Core.Bool.{not}
@@ -6,18 +7,26 @@ use mathlib.Core.List.{List, [], ◌∷◌}
 use lib.Dec.{eqb}
 use lib.ListN.{length, take}
 use borrow.Author.Tests.{eq-eqb, ne_eqb, eqb-true, eqb-false}
-use Rattle.rules.specs.Numbers.{Told, told, all_done}
+use Rattle.rules.specs.Numbers.{Told, tell, told, all_done}
 use Rattle.rules.specs.Reading.{table_in, read_says}
 use Rattle.rules.specs.Listing.{refused_line, table_lines, text_of, listing}
-use Rattle.rules.specs.declared.Answer.{Answer}
+use Rattle.rules.specs.declared.Refusal.{Refusal}
 use Rattle.theory.proofs.Tests.{split}
+use Rattle.fields.proofs.Told.{untold, untold_told}
 use Rattle.fields.proofs.Whens.{on, off}
 use Rattle.console.specs.Page.{Page, put_all}
 use Rattle.plan.specs.Gives.{PlanGives}
 use Rattle.plan.proofs.Given.{says, says_refused, done}
 use Rattle.text.specs.Walk.{Planned}
 
-module _ (table schedule : List ℕ) (r : Answer) (after : List ℕ) (g : PlanGives table schedule r after) where
+-- no refusal has the number of an answer that refuses nothing
+pub refuses : (e : Refusal) → (told (Err e)).number ≡ all_done → ⊥
+refuses e z =
+    let place = (told (Err e)).place in
+    let k : Ok place ≡ Err e = sym (ap (λ (n : ℕ). untold (tell n place)) z) ∙ untold_told (Err e) in
+    cc
+
+module _ (table schedule : List ℕ) (r : Result ℕ Refusal) (after : List ℕ) (g : PlanGives table schedule r after) where
   abbrev refusal : Told → List ℕ
   refusal t = text_of (refused_line t ∷ [])
 

@@ -1,13 +1,12 @@
 -- The walk along a schedule's bytes meets its records one after the other. Assumes nothing.
-use Prim.Native.Nat.{ℕ, ◌+◌, ◌-◌, ◌≤◌, ◌<◌}
+use Prim.Native.Nat.{ℕ, ◌+◌, ◌≤◌, ◌<◌}
 use mathlib.Core.Bool.{Bool, true, false, ◌&&◌}
 use mathlib.Core.List.{List, [], ◌∷◌, ◌++◌, map}
 use mathlib.Core.Path.{◌≡◌, refl, sym, ap, subst, ◌∙◌}
 use native.Mathlib.Nat.{div-add-mod'}
 use native.Mathlib.Omega.{arith}
 use lib.Dec.{eqb}
-use lib.ListN.{length, take, drop, length-drop}
-use lib.Seq.{drop-drop}
+use lib.ListN.{length, drop}
 use borrow.Author.Tests.{le-leb}
 use Rattle.rules.specs.Windows.{Table, hyper}
 use Rattle.rules.specs.Schedule.{Schedule, base}
@@ -17,10 +16,8 @@ use Rattle.rules.specs.Bytes.{Part, bf, wi, ri, size, parts, records_of, bytes_o
 use Rattle.rules.specs.Listing.{ascii, use_line, total_line, hyper_line, record_line, table_lines, text_of}
 use Rattle.fields.proofs.Tested.{said}
 use Rattle.fields.proofs.Whens.{on, off}
-use Rattle.console.specs.Page.{Page, page, put_all}
-use Rattle.console.proofs.Turns.{to_end}
-use Rattle.text.specs.declared.walk.Listed.{Listed}
-use Rattle.text.specs.Walk.{Found, signal_in, use_in, record_in, Lists}
+use Rattle.console.specs.Page.{Page, put_all}
+use Rattle.text.specs.Walk.{Found, signal_in, use_in, record_in}
 use Rattle.text.proofs.Put.{put_lines}
 use Rattle.text.proofs.Weights.{weight, weights, weights_all}
 
@@ -85,65 +82,58 @@ module _ (tab : Table) (E : Schedule) where
 abbrev pub lines_from : Table → List Part → List (List ℕ)
 lines_from tab left = map (record_line (plan tab)) left ++ total_line (base (plan tab) tab.signals) ∷ []
 
-module _ (tab : Table) (schedule : List ℕ) (whole : Page) where
+module _ (tab : Table) (whole : Page) where
   abbrev E : Schedule
   E = plan tab
 
-  -- these records stand from a place on, and their lines make the page whole
-  pub record Left (left : List Part) (out : List ℕ) (used counted at : ℕ) : Type 0 where
-    pub stands : drop at schedule ≡ records_of tab E left
+  -- the bytes that are left are these records, and their lines make the page whole
+  pub record Left (left : List Part) (rest : List ℕ) (page : Page) (counted : ℕ) : Type 0 where
+    pub stands : rest ≡ records_of tab E left
     pub counts : counted + weights E.count 0 left ≡ base E tab.signals
-    pub text : put_all (text_of (lines_from tab left)) (page out used) ≡ whole
+    pub text : put_all (text_of (lines_from tab left)) page ≡ whole
 
-  -- the record there, and what is left after it
-  pub record Turn (out : List ℕ) (used counted at : ℕ) (found : Found) : Type 0 where
-    pub within : at + found.size ≤ length schedule
+  -- the record in front, and what is left after it
+  pub record Turn (rest : List ℕ) (page : Page) (counted : ℕ) (found : Found) : Type 0 where
+    pub within : found.size ≤ length rest
     pub some : 1 ≤ found.size
     pub few : counted + found.count ≤ base E tab.signals
-    pub rest : List Part
-    pub next : (r : Listed) (after : List ℕ) → Lists found out used r after → Left rest after r.used (counted + r.count) (at + r.size)
+    pub others : List Part
+    pub next : {size count : ℕ} {after : Page} → size ≡ found.size → count ≡ found.count → after ≡ put_all (text_of (found.line ∷ [])) page → Left others (drop size rest) after (counted + count)
 
-  module _ (out : List ℕ) (used counted at : ℕ) where
-    turn_at : (left : List Part) → Left left out used counted at → at + 2 < length schedule → Turn out used counted at (record_in (drop at schedule))
+  module _ (rest : List ℕ) (page : Page) (counted : ℕ) where
+    turn_at : (left : List Part) → Left left rest page counted → 2 < length rest → Turn rest page counted (record_in rest)
     unfolding records_of weights
-    turn_at [] L h = absurd (omega (arith, length-drop at schedule, ap length L.stands))
-    turn_at (x ∷ xs) L h = subst (Turn out used counted at) (sym (ap record_in L.stands ∙ found tab E x xs)) (record {
-      within = omega (arith, length-drop at schedule, ap length L.stands, long tab E x xs);
+    turn_at [] L h = absurd (omega (arith, ap length L.stands))
+    turn_at (x ∷ xs) L h = subst (Turn rest page counted) (sym (ap record_in L.stands ∙ found tab E x xs)) (record {
+      within = omega (arith, ap length L.stands, long tab E x xs);
       some = omega arith;
       few = omega (arith, L.counts);
-      rest = xs;
-      next = λ r after l. record {
-        stands = ap (λ (n : ℕ). drop (at + n) schedule) l.0 ∙ sym (drop-drop (size x) at schedule) ∙ ap (drop (size x)) L.stands ∙ follow tab E x xs;
-        counts = omega (arith, l.1, L.counts);
-        text = ap (put_all (text_of (lines_from tab xs))) l.2 ∙ sym (put_lines (record_line E x) (lines_from tab xs) (page out used)) ∙ L.text;
+      others = xs;
+      next = λ s c t. record {
+        stands = ap (λ (n : ℕ). drop n rest) s ∙ ap (drop (size x)) L.stands ∙ follow tab E x xs;
+        counts = omega (arith, c, L.counts);
+        text = ap (put_all (text_of (lines_from tab xs))) t ∙ sym (put_lines (record_line E x) (lines_from tab xs) page) ∙ L.text;
       };
     })
 
-    end_at : (left : List Part) → Left left out used counted at → length schedule ≤ at + 2 → put_all (text_of (total_line counted ∷ [])) (page out used) ≡ whole
+    end_at : (left : List Part) → Left left rest page counted → length rest ≤ 2 → put_all (text_of (total_line counted ∷ [])) page ≡ whole
     unfolding weights
-    end_at [] L h = let q : counted ≡ base E tab.signals = omega (arith, L.counts) in ap (λ (n : ℕ). put_all (text_of (total_line n ∷ [])) (page out used)) q ∙ L.text
-    end_at (x ∷ xs) L h = absurd (omega (arith, length-drop at schedule, ap length L.stands, long tab E x xs, least tab E xs))
+    end_at [] L h = let q : counted ≡ base E tab.signals = omega (arith, L.counts) in ap (λ (n : ℕ). put_all (text_of (total_line n ∷ [])) page) q ∙ L.text
+    end_at (x ∷ xs) L h = absurd (omega (arith, ap length L.stands, long tab E x xs, least tab E xs))
 
-module _ {tab : Table} {schedule : List ℕ} {whole : Page} {left : List Part} {out : List ℕ} {used counted at : ℕ} (L : Left tab schedule whole left out used counted at) where
-  pub room : at + 2 ≤ length schedule
-  room = omega (arith, length-drop at schedule, ap length L.stands, least tab (plan tab) left)
+module _ {tab : Table} {whole : Page} {left : List Part} {rest : List ℕ} {page : Page} {counted : ℕ} (L : Left tab whole left rest page counted) where
+  pub turn : 2 < length rest → Turn tab whole rest page counted (record_in rest)
+  turn h = turn_at tab whole rest page counted left L h
 
-  pub turn : at + 2 < length schedule → Turn tab schedule whole out used counted at (record_in (take (length schedule - at) (drop at schedule)))
-  turn h = rw (to_end schedule at) (turn_at tab schedule whole out used counted at left L h)
-
-  pub end : length schedule ≤ at + 2 → put_all (text_of (total_line counted ∷ [])) (page out used) ≡ whole
-  end h = end_at tab schedule whole out used counted at left L h
+  pub end : length rest ≤ 2 → put_all (text_of (total_line counted ∷ [])) page ≡ whole
+  end h = end_at tab whole rest page counted left L h
 
 -- with the line in front of them they are the lines of the table
 pub headed : (tab : Table) (p : Page) {h : ℕ} {q : Page} → h ≡ hyper tab → q ≡ put_all (text_of (hyper_line h ∷ [])) p → put_all (text_of (lines_from tab (parts tab))) q ≡ put_all (text_of (table_lines tab)) p
 unfolding table_lines
 headed tab p e f = ap (put_all (text_of (lines_from tab (parts tab)))) (rw e at f) ∙ sym (put_lines (hyper_line (hyper tab)) (lines_from tab (parts tab)) p)
 
--- a part that goes on to the end
-pub part_length : (schedule : List ℕ) (at : ℕ) → length (take (length schedule - at) (drop at schedule)) ≡ length schedule - at
-part_length schedule at = ap length (to_end schedule at) ∙ length-drop at schedule
-
 -- at the start all records are left
-pub start : (tab : Table) (schedule out : List ℕ) (used : ℕ) → schedule ≡ bytes_of tab (plan tab) → Left tab schedule (put_all (text_of (lines_from tab (parts tab))) (page out used)) (parts tab) out used 0 0
+pub start : (tab : Table) (schedule : List ℕ) (page : Page) → schedule ≡ bytes_of tab (plan tab) → Left tab (put_all (text_of (lines_from tab (parts tab))) page) (parts tab) schedule page 0
 unfolding bytes_of base
-start tab schedule out used e = record { stands = e; counts = omega (arith, weights_all (plan tab).count 0 tab); text = refl }
+start tab schedule page e = record { stands = e; counts = omega (arith, weights_all (plan tab).count 0 tab); text = refl }

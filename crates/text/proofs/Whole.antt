@@ -8,6 +8,7 @@ use native.Mathlib.Omega.{arith}
 use lib.Dec.{ltb, eqb}
 use lib.ListN.{length, take, drop, set, length-append, length-set}
 use lib.Seq.{sets, sets-eq}
+use Rattle.std.proofs.lemmas.Bool.Decides.{nat_tests}
 use borrow.Author.Tests.{lt-ltb, ltb-true, eqb-true, not-false}
 use Rattle.rules.specs.Words.{when, total}
 use Rattle.rules.specs.Windows.{Table, hyper, instances}
@@ -129,11 +130,13 @@ listing_length table lent =
 
 -- ---- the page
 
+put_fits : (b : ℕ) (out : List ℕ) (at : ℕ) → at < length out → put_one b (page out at) ≡ page (set out at b) (at + 1)
+put_fits b out at h = grind (arith, nat_tests)
+
 put_sets : (bs out : List ℕ) (at : ℕ) → at + length bs ≤ length out → put_all bs (page out at) ≡ page (sets out at bs) (at + length bs)
-unfolding put_all put_one
 put_sets [] out at h = let e : at ≡ at + 0 = omega arith in ap (page out) e
 put_sets (b ∷ bs) out at h =
-    ap (put_all bs) (on _ _ (lt-ltb at (length out) (omega arith)) ∙ ap (page (set out at b)) (add-one at))
+    ap (put_all bs) (put_fits b out at (omega arith) ∙ ap (page (set out at b)) (add-one at))
     ∙ put_sets bs (set out at b) (suc at) (omega (arith, length-set out at b))
     ∙ (let e : suc at + length bs ≡ at + length (b ∷ bs) = omega arith in ap (page (sets out at (b ∷ bs))) e)
 

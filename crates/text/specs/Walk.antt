@@ -10,7 +10,8 @@ use Rattle.rules.specs.Bytes.{bytes_of}
 use Rattle.rules.specs.Reading.{table_in, read_says}
 use Rattle.rules.specs.Listing.{ascii, signal_line, use_line, text_of}
 use Rattle.form.specs.Records.{bf_bytes, use_bytes}
-use Rattle.console.specs.Page.{page, put_all}
+use Rattle.console.specs.Shown.{Puts}
+use Rattle.console.specs.declared.page.Page.{Page}
 use Rattle.text.specs.declared.walk.Listed.{Listed}
 
 -- these bytes are the schedule of a table that was planned
@@ -42,6 +43,6 @@ record_in bytes =
     (when (mark_at bytes 0 WI) (use_in (ascii "write ") bytes)
     (use_in (ascii "read ") bytes))
 
--- r is what listing it on a page gives, and `after` what is left there
-abbrev pub Lists : Found → (out : List ℕ) (used : ℕ) → Listed → (after : List ℕ) → Type 0
-Lists f out used r after = (r.size ≡ f.size) × (r.count ≡ f.count) × (page after r.used ≡ put_all (text_of (f.line ∷ [])) (page out used))
+-- r is what listing it on a page gives, and `after` the page then
+abbrev pub Lists : Found → (before : Page) → Listed → (after : Page) → Type 0
+Lists f before r after = (r.size ≡ f.size) × (r.count ≡ f.count) × Puts (text_of (f.line ∷ [])) before after

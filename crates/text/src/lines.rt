@@ -1,83 +1,76 @@
 // The lines of a listing, each with its line feed.
-ghost use Rattle.std.specs.Prelude.{◌≡◌, [], ◌∷◌};
+ghost use Rattle.std.specs.Prelude.{[], ◌∷◌};
 ghost use Rattle.rules.specs.Numbers.{told};
 ghost use Rattle.rules.specs.Listing.{named, hyper_line, signal_line, use_line, total_line, refused_line, text_of};
-ghost use Rattle.console.specs.Page.{page, put_all};
+ghost use Rattle.console.specs.Shown.{Puts};
 
-use console::page::{put, put_all, put_decimal};
+use console::page::Page;
 use rules::Answer;
 
 const LINE_FEED: u8 = b'\n';
 
-const HYPER: [u8; 6] = *b"hyper ";
+const HYPER: &[u8] = b"hyper ";
 
-const SIGNAL: [u8; 7] = *b"signal ";
+const SIGNAL: &[u8] = b"signal ";
 
-const ELEMENTS: [u8; 10] = *b" elements ";
+const ELEMENTS: &[u8] = b" elements ";
 
-const INSTANCE: [u8; 1] = *b" ";
+const INSTANCE: &[u8] = b" ";
 
-const ELEMENT: [u8; 9] = *b" element ";
+const ELEMENT: &[u8] = b" element ";
 
-const TOTAL: [u8; 6] = *b"total ";
+const TOTAL: &[u8] = b"total ";
 
-const REFUSED: [u8; 8] = *b"refused ";
+const REFUSED: &[u8] = b"refused ";
 
-const PLACE: [u8; 7] = *b" place ";
+const PLACE: &[u8] = b" place ";
 
-fn put_named(out: &mut [u8], at: usize, name: &[u8], n: u64) -> usize
-    ensures { page out.new result ≡ put_all (named name.now n) (page out.old at) }
+fn put_named(page: &mut Page, name: &[u8], n: u64)
+    ensures { Puts (named name.now n) page.old page.new }
 {
-    let end = put_all(out, at, name);
-    put_decimal(out, end, n)
+    page.put_all(name);
+    page.put_decimal(n);
 }
 
 // The last number of a line.
-fn put_last(out: &mut [u8], at: usize, name: &[u8], n: u64) -> usize
-    ensures { page out.new result ≡ put_all (text_of (named name.now n ∷ [])) (page out.old at) }
+fn put_last(page: &mut Page, name: &[u8], n: u64)
+    ensures { Puts (text_of (named name.now n ∷ [])) page.old page.new }
 {
-    let end = put_named(out, at, name, n);
-    put(out, end, LINE_FEED)
+    put_named(page, name, n);
+    page.put(LINE_FEED);
 }
 
-pub fn put_hyper(out: &mut [u8], at: usize, hyper: u32) -> usize
-    ensures { page out.new result ≡ put_all (text_of (hyper_line hyper ∷ [])) (page out.old at) }
+pub fn put_hyper(page: &mut Page, hyper: u32)
+    ensures { Puts (text_of (hyper_line hyper ∷ [])) page.old page.new }
 {
-    put_last(out, at, &HYPER, hyper as u64)
+    put_last(page, HYPER, u64::from(hyper));
 }
 
-pub fn put_signal(out: &mut [u8], at: usize, signal: u8, count: u8) -> usize
-    ensures { page out.new result ≡ put_all (text_of (signal_line signal count ∷ [])) (page out.old at) }
+pub fn put_signal(page: &mut Page, signal: u8, count: u8)
+    ensures { Puts (text_of (signal_line signal count ∷ [])) page.old page.new }
 {
-    let whose = put_named(out, at, &SIGNAL, signal as u64);
-    put_last(out, whose, &ELEMENTS, count as u64)
+    put_named(page, SIGNAL, u64::from(signal));
+    put_last(page, ELEMENTS, u64::from(count));
 }
 
 // `name` says whether the instance writes or reads.
-pub fn put_use(
-    out: &mut [u8],
-    at: usize,
-    name: &[u8],
-    task: u8,
-    instance: u64,
-    element: u8,
-) -> usize
-    ensures { page out.new result ≡ put_all (text_of (use_line name.now task instance element ∷ [])) (page out.old at) }
+pub fn put_use(page: &mut Page, name: &[u8], task: u8, instance: u16, element: u8)
+    ensures { Puts (text_of (use_line name.now task instance element ∷ [])) page.old page.new }
 {
-    let whose = put_named(out, at, name, task as u64);
-    let which = put_named(out, whose, &INSTANCE, instance);
-    put_last(out, which, &ELEMENT, element as u64)
+    put_named(page, name, u64::from(task));
+    put_named(page, INSTANCE, u64::from(instance));
+    put_last(page, ELEMENT, u64::from(element));
 }
 
-pub fn put_total(out: &mut [u8], at: usize, sum: u64) -> usize
-    ensures { page out.new result ≡ put_all (text_of (total_line sum ∷ [])) (page out.old at) }
+pub fn put_total(page: &mut Page, sum: u64)
+    ensures { Puts (text_of (total_line sum ∷ [])) page.old page.new }
 {
-    put_last(out, at, &TOTAL, sum)
+    put_last(page, TOTAL, sum);
 }
 
-pub fn put_refused(out: &mut [u8], at: usize, answer: Answer) -> usize
-    ensures { page out.new result ≡ put_all (text_of (refused_line (told answer) ∷ [])) (page out.old at) }
+pub fn put_refused(page: &mut Page, answer: Answer)
+    ensures { Puts (text_of (refused_line (told answer) ∷ [])) page.old page.new }
 {
-    let number = put_named(out, at, &REFUSED, answers::number(answer) as u64);
-    put_last(out, number, &PLACE, answers::place(answer) as u64)
+    put_named(page, REFUSED, u64::from(answers::number(answer)));
+    put_last(page, PLACE, answers::place(answer) as u64);
 }

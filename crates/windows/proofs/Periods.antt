@@ -1,8 +1,10 @@
 -- The hyper-period by Euclid's rule is that of the table, and whether it is above the longest is known as soon as a part's is.
+use Rattle.std.specs.Prelude.{Option, Some, None}
 use mathlib.Core.Path.{◌≡◌, refl, sym, ap, ◌∙◌}
 use Prim.Native.Nat.{ℕ, ◌+◌, ◌≤◌, ◌<◌}
 use native.Mathlib.Nat.{le_of_dvd, lt_of_lt_of_le}
 use native.Mathlib.Numerals.{add-one}
+use Rattle.std.proofs.lemmas.List.{get_or-take}
 use lib.Dec.{ltb}
 use borrow.Author.Tests.{lt-ltb, le-ltb, ltb-true, ltb-false}
 use Rattle.rules.specs.Euclid.{lcm_of}
@@ -14,24 +16,22 @@ use Rattle.rules.specs.declared.Tasks.{Tasks}
 use Rattle.rules.specs.declared.Signals.{Signals}
 use Rattle.theory.proofs.Tests.{split}
 use Rattle.theory.proofs.Hyper.{lcm_law}
-use Rattle.windows.specs.declared.Hyper as declared
-use Rattle.windows.specs.declared.Hyper.TheVariants.{Ticks, Above}
 use Rattle.windows.specs.Windowed.{AllWindowed}
 use Rattle.windows.specs.Forms.{hyper_within, hyper_of}
-use Rattle.windows.proofs.Windows.{period_pos}
+use Rattle.windows.proofs.Windows.{window, period_pos}
 
-pub within_longest : (h : ℕ) → h ≤ longest → hyper_within h ≡ Ticks h
+pub within_longest : (h : ℕ) → h ≤ longest → hyper_within h ≡ Some h
 unfolding hyper_within when
 within_longest h l = rw (le-ltb longest h l)
 
-pub above_longest : (h : ℕ) → longest < h → hyper_within h ≡ Above
+pub above_longest : (h : ℕ) → longest < h → hyper_within h ≡ None
 unfolding hyper_within when
 above_longest h l = rw (lt-ltb longest h l)
 
 -- what an answer says
-abbrev pub IsHyper : ℕ → declared.Hyper → Type 0
-IsHyper h (Ticks r) = (r ≡ h) × (h ≤ longest)
-IsHyper h Above = longest < h
+abbrev pub IsHyper : ℕ → Option ℕ → Type 0
+IsHyper h (Some r) = (r ≡ h) × (h ≤ longest)
+IsHyper h None = longest < h
 
 hyper_within_lem : (h : ℕ) → IsHyper h (hyper_within h)
 hyper_within_lem h =
@@ -64,11 +64,11 @@ module _ (tasks : Tasks) where
         let b = lcm_law (λ k. (task_of tasks k).period) tasks.count (λ k h. period_pos (task_of tasks k) (w k h)) in
         le_of_dvd b.positive (a.least (lcm_first tasks.count) (λ k h. b.multiple k (lt_of_lt_of_le h l)))
 
-    pub above_early : (n : ℕ) → n ≤ tasks.count → longest < lcm_first n → hyper_of tasks ≡ Above
+    pub above_early : (n : ℕ) → n ≤ tasks.count → longest < lcm_first n → hyper_of tasks ≡ None
     unfolding hyper_of
     above_early n l a = above_longest (lcm_first tasks.count) (lt_of_lt_of_le a (lcm_grows n l))
 
-  pub ticks : (h : ℕ) → h ≡ lcm_first tasks.count → h ≤ longest → hyper_of tasks ≡ Ticks h
+  pub ticks : (h : ℕ) → h ≡ lcm_first tasks.count → h ≤ longest → hyper_of tasks ≡ Some h
   unfolding hyper_of
   ticks h e l = ap hyper_within (sym e) ∙ within_longest h l
 
@@ -76,3 +76,6 @@ module _ (tasks : Tasks) where
   pub hyper_is : (signals : Signals) (grid : Grid) → IsHyper (hyper (table_of tasks signals grid)) (hyper_of tasks)
   unfolding hyper_of hyper
   hyper_is signals grid = hyper_within_lem (lcm_first tasks.count)
+
+-- what the check needs of the periods of the first tasks
+pub ruleset periods = (window, get_or-take, lcm_none, lcm_turn, lcm_pos, above_early, ticks)

@@ -1,18 +1,20 @@
 -- Each closed form is what rules says of the instances of task k: the last to close, the next to close, the last to open.
+use Rattle.std.specs.Prelude.{Some, None}
+use Rattle.std.proofs.lemmas.Option.{none-some, same_Some}
 use mathlib.Core.Path.{◌≡◌, refl, sym, ◌∙◌}
 use mathlib.Core.Logic.{⊎_elim, ◌⊎◌, inl, inr}
 use mathlib.Core.Bool.{Bool, true, false}
 use Prim.Native.Nat.{ℕ, ◌+◌, ◌-◌, ◌*◌, ◌/◌, ◌≤◌, ◌<◌, min}
-use native.Mathlib.Nat.{min-eq_left, min-eq_right, min-le_left, min-le_right, le_of_lt, le-div_iff_mul-le, div-mul-le_self, lt-div-mul-add, mul-le-mul_right, le_trans, lt_of_not-le}
+use native.Mathlib.Nat.{min-eq_left, min-eq_right, min-le_left, min-le_right, le_of_lt, le-div_iff_mul-le, div-le_self, div-mul-le_self, lt-div-mul-add, mul-le-mul_right, le_trans, lt_of_not-le}
 use native.Mathlib.Omega.{arith}
 use native.Mathlib.Decide.{dec_le}
 use lib.Dec.{leb, ltb}
-use borrow.Author.Tests.{le-leb, lt-leb, lt-ltb, ltb-true, ltb-false, leb-true, leb-false}
+use borrow.Author.Tests.{le-leb, lt-leb, lt-ltb, le-ltb, ltb-true, ltb-false, leb-true, leb-false}
 use Rattle.rules.specs.Words.{when}
 use Rattle.rules.specs.Windows.{Table, closes}
 use Rattle.rules.specs.Table.{longest, windowed}
 use Rattle.rules.specs.declared.Task.{Task}
-use Rattle.theory.proofs.Tests.{both3, and_is}
+use Rattle.theory.proofs.Tests.{both3, and_is, split}
 use Rattle.windows.specs.Windowed.{Windowed}
 use Rattle.windows.specs.Forms.{last_closed, next_closing, last_opened, task_in, IsLastClosed, IsLastOpened, IsNextClosing}
 
@@ -102,13 +104,46 @@ module _ (tab : Table) (k t : ℕ) (w : Windowed (task_in tab k)) where
       smaller (yes l) = inl (min-eq_left l)
       smaller (no f) = inr (min-eq_right (le_of_lt (lt_of_not-le f)))
 
--- ---- the two ways to the next closing
+-- ---- each closed form by the test that the code made
 
-module _ (task : Task) (t limit x : ℕ) where
-  pub next_later : task.end ≤ t → x ≡ ((t - task.end) / task.period + 1) * task.period + task.end → next_closing task t limit ≡ min limit x
-  unfolding next_closing when
-  next_later l e = simp (le-leb task.end t l, e)
+module _ (task : Task) (t : ℕ) where
+  pub closed_at : task.end ≤ t → Some ((t - task.end) / task.period) ≡ last_closed task t
+  unfolding last_closed when
+  closed_at l = simp (le-ltb t task.end l)
 
-  pub next_own : t < task.end → x ≡ task.end → next_closing task t limit ≡ min limit x
+  pub closed_none : t < task.end → None ≡ last_closed task t
+  unfolding last_closed when
+  closed_none l = simp (lt-ltb t task.end l)
+
+  pub opened_at : task.start < t → Some ((t - (task.start + 1)) / task.period) ≡ last_opened task t
+  unfolding last_opened when
+  opened_at l = let e : t - 1 - task.start ≡ t - (task.start + 1) = omega arith in simp (lt-leb t task.start l, e)
+
+  pub opened_none : t ≤ task.start → None ≡ last_opened task t
+  unfolding last_opened when
+  opened_none l = simp (le-leb t task.start l)
+
+  -- what it says back
+  pub closed_is : {i : ℕ} → Some i ≡ last_closed task t → (task.end ≤ t) × (i ≡ (t - task.end) / task.period)
+  closed_is {i} e =
+      split (ltb t task.end)
+      (λ b. absurd (none-some i (closed_none (ltb-true t task.end b) ∙ sym e)))
+      (λ b. let l = ltb-false t task.end b in (l, same_Some _ _ (e ∙ sym (closed_at l))))
+
+  pub none_closed : None ≡ last_closed task t → t < task.end
+  none_closed e = split (ltb t task.end) (λ b. ltb-true t task.end b) (λ b. absurd (none-some _ (e ∙ sym (closed_at (ltb-false t task.end b)))))
+
+-- the next closing is that of the instance after the last one that closed, or of the first
+module _ (task : Task) (t limit : ℕ) {x : ℕ} where
+  pub next_first : None ≡ last_closed task t → x ≡ task.end → min limit x ≡ next_closing task t limit
   unfolding next_closing when
-  next_own l e = simp (lt-leb task.end t l, e)
+  next_first e z = rw z (simp (lt-leb task.end t (none_closed task t e)))
+
+  pub next_after : {i : ℕ} → Some i ≡ last_closed task t → x ≡ (i + 1) * task.period + task.end → min limit x ≡ next_closing task t limit
+  unfolding next_closing when
+  next_after e z = let (l, q) = closed_is task t e in rw (z, q) (simp (le-leb task.end t l))
+
+-- what the check needs of the last instance, and of the next closing
+pub ruleset last = (window, period_pos, closed_at, closed_none, opened_at, opened_none)
+
+pub ruleset next = (window, closed_is, next_first, next_after, div-le_self, div-mul-le_self)

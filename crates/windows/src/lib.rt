@@ -8,69 +8,58 @@ ghost use Rattle.windows.specs.Forms.{last_closed, next_closing, last_opened, hy
 
 use rules::{Task, Tasks};
 
-// The number of an instance, or none.
+// The tasks of a table whose records were read: each has its window inside its period.
 #[derive(Clone, Copy)]
-pub enum Found {
-    At(u32),
-    Nothing,
-}
-
-// The hyper-period in ticks, where it is not above the longest.
-#[derive(Clone, Copy)]
-pub enum Hyper {
-    Ticks(u32),
-    Above,
+pub struct WindowedTasks {
+    pub tasks: Tasks,
+    ghost few: { tasks.count ≤ most_tasks },
+    ghost windowed: { AllWindowed tasks },
 }
 
 // The last instance that closes at or before a tick.
-pub fn last_closed(task: Task, tick: u32) -> Found
+#[tactic(auto, using(crate::proofs::Windows::last))]
+pub fn last_closed(task: Task, tick: u32) -> Option<u32>
     requires { Windowed task }
     ensures { result ≡ last_closed task tick }
 {
-    if tick < task.end {
-        Found::Nothing
-    } else {
-        Found::At((tick - task.end) / task.period)
-    }
+    let since = tick.checked_sub(task.end)?;
+    Some(since / task.period)
 }
 
 // The first closing after a tick, or `limit` where that is not later.
+#[tactic(auto, using(crate::proofs::Windows::next))]
 pub fn next_closing(task: Task, tick: u32, limit: u32) -> u32
     requires { Windowed task × (tick ≤ longest) }
     ensures { result ≡ next_closing task tick limit }
 {
-    let mut next = task.end;
-    if task.end <= tick {
-        next = ((tick - task.end) / task.period + 1) * task.period + task.end;
-    }
-    if limit <= next { limit } else { next }
+    let next = match last_closed(task, tick) {
+        None => task.end,
+        Some(last) => (last + 1) * task.period + task.end,
+    };
+    limit.min(next)
 }
 
 // The last instance that opens before a tick.
-pub fn last_opened(task: Task, tick: u32) -> Found
+#[tactic(auto, using(crate::proofs::Windows::last))]
+pub fn last_opened(task: Task, tick: u32) -> Option<u32>
     requires { Windowed task }
     ensures { result ≡ last_opened task tick }
 {
-    if tick <= task.start {
-        Found::Nothing
-    } else {
-        Found::At((tick - 1 - task.start) / task.period)
-    }
+    let since = tick.checked_sub(task.start + 1)?;
+    Some(since / task.period)
 }
 
-// The least common multiple of all periods; it stops as soon as that is above the longest.
-pub fn hyper_period(tasks: Tasks) -> Hyper
-    requires { (tasks.count ≤ most_tasks) × AllWindowed tasks }
-    ensures { result ≡ hyper_of tasks }
+// The least common multiple of all periods, or none as soon as that is above the longest.
+#[tactic(auto, using(crate::proofs::Periods::periods))]
+pub fn hyper_period(windowed: WindowedTasks) -> Option<u32>
+    ensures { result ≡ hyper_of windowed.tasks }
 {
     let mut hyper: u32 = 1;
-    let mut k: usize = 0;
-    while k < tasks.count {
-        hyper = euclid::lcm(hyper, tasks.list[k].period);
+    for task in &windowed.tasks.list[..windowed.tasks.count] {
+        hyper = euclid::lcm(hyper, task.period);
         if rules::LONGEST < hyper {
-            return Hyper::Above;
+            return None;
         }
-        k += 1;
     }
-    Hyper::Ticks(hyper)
+    Some(hyper)
 }

@@ -1,13 +1,12 @@
 -- `inspect::check_schedule` meets its contract: the table's refusal, else what the check with that table says.
-use mathlib.Core.Path.{sym, ◌∙◌}
-use Rattle.verdict.proofs.Loaded.{load_refused, load_accepted, load_checked}
+use Rattle.fields.proofs.Told.{handed_on}
+use Rattle.verdict.proofs.Loaded.{load_refused, load_checked}
 use Rattle.inspect.proofs.check_schedule.Goals as goal
 
-pub returns-then-number-ne-DONE : goal.returns-then-number-ne-DONE
-returns-then-number-ne-DONE c = load_refused _ c.read_table-read.result c.read_table-read.ensures _ (λ z. c.if-number-ne-DONE.true (c.number.ensures ∙ z))
-
-pub check_with-requires : goal.check_with-requires
-check_with-requires c = load_accepted _ c.read_table-read.result c.read_table-read.ensures (sym c.number.ensures ∙ c.if-number-ne-DONE.false) _ c.read_grid-grid.ensures
+pub returns-in_err-accepted : goal.returns-in_err-accepted
+returns-in_err-accepted c =
+    let e = handed_on c.from_residual.result c.in_err-accepted.field-0.0 c.from_residual.ensures in
+    rw e (load_refused c.args.table.now c.args.schedule.now _ c.in_err-accepted.ensures)
 
 pub returns : goal.returns
-returns c = load_checked _ c.read_table-read.result c.read_table-read.ensures (sym c.number.ensures ∙ c.if-number-ne-DONE.false) _ c.read_grid-grid.ensures _ c.check_with.ensures
+returns c = load_checked c.args.table.now c.args.schedule.now c.in_ok-accepted.ensures.0 c.in_ok-accepted.ensures.1 c.check_with.ensures

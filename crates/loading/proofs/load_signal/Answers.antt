@@ -8,4 +8,4 @@ use Rattle.loading.proofs.load_signal.Goals as goal
 
 pub returns : goal.returns
 unfolding signal_at
-returns c = let a = c.args in let writers = c.place_accesses-read.ensures in let readers = c.place_accesses-end.ensures in let count = c.wide-count.ensures.0 in let n : c.place_accesses-end.result - a.used ≡ signal_uses a.grid.now a.counts.now a.tasks a.signal = omega (arith, readers.1, writers.1) in (c.place_uses.ensures ∙ ap₂ (place_uses a.schedule.now a.signal a.base a.used) n (readers.0 ∙ ap₂ (λ f l. place_accesses reads a.grid.now a.counts.now 1 a.signal f a.tasks l) writers.1 writers.0), rw (← count) c.fill_elements.ensures, omega (arith, readers.1, writers.1), omega (arith, count))
+returns c = let a = c.args in let g = a.source in let b = a.before in let writers = c.place_accesses-read.ensures in let readers = c.place_accesses-used.ensures in let n : c.place_accesses-used.result - b.used ≡ signal_uses g.grid.now g.counts.now g.tasks a.signal = omega (arith, readers.1, writers.1) in (c.place_uses.ensures ∙ ap₂ (place_uses g.schedule.now a.signal b.base b.used) n (readers.0 ∙ ap₂ (λ f l. place_accesses reads g.grid.now g.counts.now 1 a.signal f g.tasks l) writers.1 writers.0), rw (← c.from-count.ensures) c.fill_elements.ensures, omega (arith, readers.1, writers.1), omega arith)

@@ -1,6 +1,6 @@
 use mathlib.Core.Path.{◌≡◌}
 use mathlib.Core.List.{List}
-use Prim.Native.Nat.{ℕ, ◌+◌, ◌*◌, ◌-◌, ◌≤◌}
+use Prim.Native.Nat.{ℕ, ◌+◌, ◌*◌}
 use lib.ListN.{length}
 use Rattle.form.specs.declared.sides.Side.{Side}
 use Rattle.form.specs.Records.{mark_of, instance_parts}
@@ -9,8 +9,5 @@ use Rattle.schedule.specs.Writing.{put}
 use Rattle.schedule.proofs.put_instances.Given as goal
 
 abbrev pub invariant-loop-i : goal.invariant-loop-i
-invariant-loop-i l = (l.i ≤ l.records) × (l.used ≡ l.first + l.i) × (l.start ≡ 4 * (l.signal + 1)) × (length l.out ≡ length l.initial.out)
-    × ((counts : List ℕ) (side : Side) → l.mark ≡ mark_of side → record { out = l.out; used = l.used } ≡ walked (put counts l.uses) (instance_parts side l.signal l.task l.i) (record { out = l.initial.out; used = l.first }))
-
-abbrev pub decreases-loop-i : goal.decreases-loop-i
-decreases-loop-i l = l.records - l.i
+invariant-loop-i l = (l.start ≡ 4 * (l.signal + 1)) × (length l.out ≡ length l.initial.out)
+    × ((counts : List ℕ) (side : Side) → l.mark ≡ mark_of side → record { out = l.out; used = l.first + l.i } ≡ walked (put counts l.uses) (instance_parts side l.signal l.task l.i) (record { out = l.initial.out; used = l.first }))

@@ -11,13 +11,11 @@ use Rattle.schedule.proofs.put_signal.Goals as goal
 
 pub put_side-written-requires : goal.put_side-written-requires
 unfolding uses_of
-put_side-written-requires c = let pre = c.requires in
-    (pre.0, pre.1, pre.2, omega arith, omega arith)
+put_side-written-requires c = record { few = omega arith; room = omega arith }
 
 pub put_side-requires : goal.put_side-requires
 unfolding uses_of
-put_side-requires c = let pre = c.requires in
-    (pre.0, pre.1, pre.2, omega arith, omega arith)
+put_side-requires c = record { few = omega arith; room = omega arith }
 
 pub returns : goal.returns
 unfolding sides_parts signal_parts uses_of

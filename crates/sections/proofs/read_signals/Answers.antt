@@ -1,20 +1,15 @@
--- `sections::read_signals` meets its contract: by how the tasks ended.
+-- `sections::read_signals` keeps no more than a table may hold.
 use native.Mathlib.Omega.{arith}
-use mathlib.Core.Path.{sym, ap, ◌∙◌}
-use Rattle.rules.specs.Numbers.{told}
-use Rattle.rules.specs.Records.{End}
+use mathlib.Core.Path.{◌≡◌, ap}
 use Rattle.rules.specs.Reading.{Section, signals_in}
 use Rattle.rules.specs.declared.Signals.{Signals}
 use Rattle.records.specs.Said.{end_said}
+use Rattle.sections.specs.Said.{section_said}
+use Rattle.sections.proofs.Few.{signals_few}
 use Rattle.sections.proofs.read_signals.Goals as goal
 
-pub returns-in-At : goal.returns-in-At
-returns-in-At c = record { is = c.signals_from.ensures.is ∙ sym (ap (signals_in _) (ap end_said c.in-At.is)); few = c.signals_from.ensures.few }
-
-pub returns-in-Refused : goal.returns-in-Refused
+pub returns-clause-few : goal.returns-clause-few
 unfolding signals_in
-returns-in-Refused c = record {
-  is = ap {B = Section Signals} (λ (b : Signals). record { read = b; end = End.refused (told c.in-Refused.answer) }) c.no_signals.ensures
-      ∙ sym (ap (signals_in _) (ap end_said c.in-Refused.is));
-  few = omega (arith, ap (λ (b : Signals). b.count) c.no_signals.ensures);
-}
+returns-clause-few c =
+    let is : section_said c.read_after.result ≡ signals_in c.args.bytes.now (end_said c.args.from) = grind arith in
+    rw (ap (λ (s : Section Signals). s.read.count) is) (signals_few c.args.bytes.now (end_said c.args.from))

@@ -16,8 +16,5 @@ up_to count last inside past first =
     (λ e. let (a, b) = inside first (leb-true first last e) in and_is (lt-ltb first most_uses a) (le-leb (first + count) most_uses b))
     (λ e. let (a, b) = both (ltb first most_uses) (leb (first + count) most_uses) e in le-leb first last (past first (ltb-true first most_uses a) (leb-true (first + count) most_uses b)))
 
-pub returns-then-count-eq0 : goal.returns-then-count-eq0
-returns-then-count-eq0 c = up_to _ _ (λ first h. (omega arith, omega arith)) (λ first a b. omega arith)
-
 pub returns : goal.returns
 returns c = up_to _ _ (λ first h. (omega arith, omega arith)) (λ first a b. omega arith)

@@ -1,18 +1,16 @@
--- A loop that tests.
+-- A loop that tests the positions, which stand together.
 use native.Mathlib.Omega.{arith}
-use Rattle.state.specs.Parts.{positions}
-use Rattle.state.specs.Fitness.{positions_fit}
-use Rattle.state.proofs.Folds.{tested_none, tested_turn, tested_end}
+use mathlib.Core.Path.{ap, ◌∙◌}
+use Rattle.std.proofs.lemmas.List.Edits.{get_or-between}
+use Rattle.state.specs.Parts.{uses, positions, tick}
+use Rattle.state.specs.Fitness.{in_block, positions_fit}
+use Rattle.state.proofs.Folds.{tested_turn, tested_end}
 use Rattle.state.proofs.positions_fit.Goals as goal
 
-pub loop-k-init : goal.loop-k-init
+pub loop-position-preserved : goal.loop-position-preserved
 unfolding positions_fit
-loop-k-init c = (omega arith, tested_none _)
-
-pub loop-k-preserved : goal.loop-k-preserved
-unfolding positions_fit
-loop-k-preserved c = (omega arith, tested_turn _ _ c.both-ok.ensures c.loop-k.invariant.1 c.in_block.ensures)
+loop-position-preserved c = (omega arith, tested_turn _ _ c.loop-position.invariant.1 (c.in_block-ok.ensures ∙ ap in_block (get_or-between c.args.numbers.now uses tick c.loop-position.position-index 0 (omega arith))))
 
 pub returns : goal.returns
 unfolding positions_fit
-returns c = tested_end _ _ positions c.loop-k.invariant.1 (omega arith) (omega arith)
+returns c = tested_end _ _ positions c.loop-position.invariant.1 (omega arith) (omega arith)

@@ -5,5 +5,5 @@ use Rattle.state.specs.Parts.{at, uses, positions}
 use Rattle.state.specs.Fitness.{in_block}
 use Rattle.state.proofs.positions_fit.Given as goal
 
-abbrev pub invariant-loop-k : goal.invariant-loop-k
-invariant-loop-k l = (l.k ≤ positions) × (l.ok ≡ every l.k (λ j. in_block (at l.numbers (uses + j))))
+abbrev pub invariant-loop-position : goal.invariant-loop-position
+invariant-loop-position l = (l.position-index ≤ positions) × (l.ok ≡ every l.position-index (λ j. in_block (at l.numbers (uses + j))))

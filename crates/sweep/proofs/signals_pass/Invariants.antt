@@ -1,4 +1,3 @@
-use Prim.Native.Nat.{◌-◌, ◌≤◌}
 use mathlib.Core.Bool.{true}
 use mathlib.Core.Path.{◌≡◌}
 use Rattle.rules.specs.Words.{total}
@@ -7,7 +6,4 @@ use Rattle.sweep.specs.Pass.{grid_table, all_swept}
 use Rattle.sweep.proofs.signals_pass.Given as goal
 
 abbrev pub invariant-loop-s : goal.invariant-loop-s
-invariant-loop-s l = (l.s ≤ l.signals) × (l.start ≡ total (size_of (grid_table l.tasks l.grid)) l.s) × (all_swept l.tasks l.grid l.schedule l.s ≡ true)
-
-abbrev pub decreases-loop-s : goal.decreases-loop-s
-decreases-loop-s l = l.signals - l.s
+invariant-loop-s l = (l.start ≡ total (size_of (grid_table l.tasks l.grid)) l.s) × (all_swept l.tasks l.grid l.schedule l.s ≡ true)

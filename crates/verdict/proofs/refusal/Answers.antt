@@ -1,13 +1,22 @@
--- `verdict::refusal` meets its contract: 21 at the first fault of the readers, else what is said of the writers.
+-- `verdict::refusal` meets its contract: 21 at the first fault of the readers, else 22 at that of the writers, else done.
 use mathlib.Core.Path.{◌∙◌}
-use Rattle.verdict.proofs.Formed.{form_counted, wrong_says}
+use Rattle.faults.proofs.Searched.{nowhere}
+use Rattle.verdict.proofs.Formed.{form_counted, wrong_says, shared_says}
 use Rattle.verdict.proofs.refusal.Goals as goal
 
 pub first_fault-requires : goal.first_fault-requires
-first_fault-requires c = (c.requires.0, (form_counted _ _ c.requires.1).1)
+first_fault-requires c = (form_counted c.args.accepted.now _ c.requires).1
 
-pub returns-in-At : goal.returns-in-At
-returns-in-At c = wrong_says _ _ c.requires.1 c.first_fault.ensures c.in-At.is
+pub returns-in-Some : goal.returns-in-Some
+returns-in-Some c = wrong_says c.args.accepted.now _ c.requires c.first_fault.ensures c.in-Some.is
 
-pub returns-in-Nowhere : goal.returns-in-Nowhere
-returns-in-Nowhere c = c.sharing_refusal.ensures ∙ wrong_says _ _ c.requires.1 c.first_fault.ensures c.in-Nowhere.is
+pub first_fault-requires-2 : goal.first_fault-requires-2
+first_fault-requires-2 c = (form_counted c.args.accepted.now _ c.requires).1
+
+pub returns-in-Some-first_fault : goal.returns-in-Some-first_fault
+returns-in-Some-first_fault c = let a = c.args.accepted.now in
+    shared_says a _ c.requires c.first_fault-2.ensures c.in-Some-first_fault.is ∙ wrong_says a _ c.requires c.first_fault.ensures (nowhere _ c.in_default.not-Some)
+
+pub returns : goal.returns
+returns c = let a = c.args.accepted.now in
+    shared_says a _ c.requires c.first_fault-2.ensures (nowhere _ c.in_default-first_fault.not-Some) ∙ wrong_says a _ c.requires c.first_fault.ensures (nowhere _ c.in_default.not-Some)

@@ -1,13 +1,9 @@
--- `before` meets its contract: the bytes passed, and those before the mark in what is left, are those before it in all. Assumes nothing.
-use native.Mathlib.Omega.{arith}
-use Rattle.console.proofs.Turns.{before_on, before_here, before_end}
+-- `before` meets its contract: where the mark was not found, all bytes stand before it. Assumes nothing.
+use Rattle.std.proofs.Common.{rules, tests, ◌==◌}
+use Rattle.std.proofs.lemmas.Iterator.{YieldsList-from_slice}
+use Rattle.std.proofs.lemmas.Iterator.Search.{position_from_yields_List}
+use Rattle.console.proofs.Numbers.{place_most, place_or}
 use Rattle.console.proofs.words.before.Goals as goal
 
-pub returns-then-bytes-i : goal.returns-then-bytes-i
-returns-then-bytes-i c = omega (arith, before_here c.args.bytes.now c.loop-i.i c.loop-i-test.true c.args.mark c.if-bytes-i.true)
-
-pub loop-i-preserved : goal.loop-i-preserved
-loop-i-preserved c = omega (arith, before_on c.args.bytes.now c.loop-i.i c.loop-i-test.true c.args.mark c.if-bytes-i.false)
-
 pub returns : goal.returns
-returns c = omega (arith, before_end c.args.bytes.now c.loop-i.i c.loop-i-test.false c.args.mark)
+returns c = place_or _ _ (place_most (λ b. b == c.args.mark) c.args.bytes.now) (position_from_yields_List (λ b. b == c.args.mark) _ _ _ c.position.ensures.ran (YieldsList-from_slice c.args.bytes.now cc) (λ x b q k. search (rules, tests))) c.unwrap_or.ensures

@@ -1,16 +1,13 @@
 use mathlib.Core.Path.{◌≡◌}
-use Prim.Native.Nat.{◌-◌, ◌≤◌}
+use Rattle.std.specs.Prelude.{None}
 use Rattle.rules.specs.Words.{total, gather}
 use Rattle.rules.specs.Bytes.{size_of, schedule_in}
-use Rattle.form.specs.Form.{walked}
+use Rattle.accept.specs.Accepts.{its_table}
 use Rattle.sweep.specs.Pass.{grid_table}
-use Rattle.faults.specs.declared.Fault.{Fault}
-use Rattle.faults.specs.Faults.{read_table, side_of, wrong_of, seek}
+use Rattle.faults.specs.Faults.{side_of, wrong_of, first_in}
 use Rattle.faults.proofs.search.first_fault.Given as goal
 
-abbrev pub invariant-loop-s : goal.invariant-loop-s
-invariant-loop-s l = (l.s ≤ l.read.signals.count) × (l.start ≡ total (size_of (grid_table l.read.tasks l.grid)) l.s)
-    × (Fault.Nowhere ≡ walked (seek (read_table l.read l.grid) (wrong_of (read_table l.read l.grid) (schedule_in (read_table l.read l.grid) l.schedule) l.side)) (gather l.s (side_of (read_table l.read l.grid) l.grid l.side l.read.tasks.count)) Fault.Nowhere)
-
-abbrev pub decreases-loop-s : goal.decreases-loop-s
-decreases-loop-s l = l.read.signals.count - l.s
+abbrev pub invariant-loop-signal : goal.invariant-loop-signal
+invariant-loop-signal l = let a = l.accepted in
+    (l.start ≡ total (size_of (grid_table a.tasks a.grid)) l.signal)
+    × (None ≡ first_in (its_table a) (wrong_of (its_table a) (schedule_in (its_table a) l.schedule) l.side) (gather l.signal (side_of (its_table a) a.grid l.side a.tasks.count)))

@@ -1,16 +1,14 @@
 -- `sharing::clashes` meets its contract.
-use Rattle.fields.proofs.Whens.{ladder}
+use Rattle.std.proofs.Common.{arith}
+use Rattle.std.proofs.lemmas.Grind.{common_steps}
+use Rattle.rules.specs.Words.{when}
 use Rattle.faults.specs.Faults.{clashing}
 use Rattle.faults.proofs.sharing.clashes.Goals as goal
 
-pub returns-then-a-b : goal.returns-then-a-b
-unfolding clashing
-returns-then-a-b c = search ladder
+pub returns-then-a-b-2 : goal.returns-then-a-b-2
+unfolding clashing when
+returns-then-a-b-2 c = grind (arith, common_steps)
 
-pub returns-then-b-a : goal.returns-then-b-a
-unfolding clashing
-returns-then-b-a c = search ladder
-
-pub returns : goal.returns
-unfolding clashing
-returns c = search ladder
+pub returns-else-a-b-2 : goal.returns-else-a-b-2
+unfolding clashing when
+returns-else-a-b-2 c = grind (arith, common_steps)

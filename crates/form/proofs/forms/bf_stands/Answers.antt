@@ -1,17 +1,8 @@
--- `forms::bf_stands` meets its contract: the tests follow the definition's order.
-use Rattle.fields.proofs.Whens.{ladder}
-use Rattle.form.specs.Form.{bf_stands}
-use Rattle.form.proofs.Steps.{same_eqb}
+use Rattle.form.proofs.Steps.{bf_marked}
 use Rattle.form.proofs.forms.bf_stands.Goals as goal
 
-pub returns-then-bytes-at : goal.returns-then-bytes-at
-unfolding bf_stands
-returns-then-bytes-at c = search ladder
+pub returns-then-marked : goal.returns-then-marked
+returns-then-marked c = rw (bf_marked c.args.bytes.now c.args.at c.args.signal c.requires, ← c.marked.ensures, c.if-marked.true, c.from.ensures)
 
-pub returns-then-bytes-at-2 : goal.returns-then-bytes-at-2
-unfolding bf_stands
-returns-then-bytes-at-2 c = search ladder
-
-pub returns : goal.returns
-unfolding bf_stands
-returns c = search (ladder, same_eqb)
+pub returns-else-marked : goal.returns-else-marked
+returns-else-marked c = rw (bf_marked c.args.bytes.now c.args.at c.args.signal c.requires, ← c.marked.ensures, c.if-marked.false)

@@ -1,13 +1,9 @@
--- `forms::instance_stands` meets its contract: the tests follow the definition's order.
-use Rattle.fields.proofs.Whens.{ladder}
+-- `forms::instance_stands` meets its contract: the two bytes as one number.
+use mathlib.Core.Path.{◌∙◌}
 use Rattle.form.specs.Form.{instance_stands}
-use Rattle.form.proofs.Steps.{same_eqb}
+use Rattle.form.proofs.Steps.{same_eqb, two_bytes}
 use Rattle.form.proofs.forms.instance_stands.Goals as goal
-
-pub returns-then-wide-high : goal.returns-then-wide-high
-unfolding instance_stands
-returns-then-wide-high c = search ladder
 
 pub returns : goal.returns
 unfolding instance_stands
-returns c = search (ladder, same_eqb)
+returns c = same_eqb _ (c.from.ensures ∙ c.from_be_bytes.ensures) ∙ two_bytes _ _ _ (c.type_inv.bytes _).fits

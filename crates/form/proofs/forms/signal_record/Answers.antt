@@ -3,7 +3,9 @@ use native.Mathlib.Omega.{arith}
 use Rattle.fields.proofs.Tested.{granted, room}
 use Rattle.fields.proofs.Whens.{ladder}
 use Rattle.form.specs.Form.{signal_step}
-use Rattle.form.proofs.Steps.{summed}
+use Prim.Native.Nat.{◌+◌, ◌<◌, ◌≤◌}
+use Rattle.rules.specs.Table.{most_elements}
+use Rattle.rules.specs.Fields.{byte_at}
 use Rattle.form.proofs.forms.signal_record.Goals as goal
 
 pub returns-then-not-holds : goal.returns-then-not-holds
@@ -30,18 +32,16 @@ pub returns-then-count-lt1 : goal.returns-then-count-lt1
 unfolding signal_step
 returns-then-count-lt1 c = search ladder depth 9
 
-pub returns-then-count-gt-MOST_COUNT : goal.returns-then-count-gt-MOST_COUNT
+pub returns-then-from-gt-MOST_ELEMENTS : goal.returns-then-from-gt-MOST_ELEMENTS
 unfolding signal_step
-returns-then-count-gt-MOST_COUNT c = search ladder depth 9
+returns-then-from-gt-MOST_ELEMENTS c = let h : most_elements < byte_at c.args.bytes.now (c.args.from.at + 3) = omega (arith, c.from.ensures, c.if-from-gt-MOST_ELEMENTS.true) in
+    search (ladder, h) depth 9
 
 pub overflow_add-result : goal.overflow_add-result
 unfolding signal_step
 overflow_add-result c = omega (arith, (room _ _ _ (granted c.holds.ensures c.if-not-holds.false-raw)))
 
-pub overflow_add-result-2 : goal.overflow_add-result-2
-unfolding signal_step
-overflow_add-result-2 c = omega (arith, c.wide.ensures)
-
 pub returns : goal.returns
 unfolding signal_step
-returns c = search (ladder, summed) depth 9
+returns c = let h : byte_at c.args.bytes.now (c.args.from.at + 3) ≤ most_elements = omega (arith, c.from.ensures, c.if-from-gt-MOST_ELEMENTS.false) in
+    rw c.from-2.ensures (search (ladder, h) depth 9)

@@ -1,12 +1,12 @@
 -- `lengths::length` meets its contract.
-use mathlib.Core.Path.{ap, ◌∙◌}
+use mathlib.Core.Path.{refl, ap, ap₂, ◌∙◌}
 use Prim.Native.Nat.{◌+◌}
-use Rattle.form.proofs.Tables.{instances_short, length_is}
+use Rattle.rules.specs.Words.{total}
+use Rattle.form.specs.Records.{signal_bytes}
+use Rattle.form.proofs.Parted.{ready}
+use Rattle.form.proofs.Tables.{length_is}
 use Rattle.form.proofs.lengths.length.Goals as goal
 
-pub signals_length-requires : goal.signals_length-requires
-signals_length-requires c = let pre = c.requires in
-    (pre.0, pre.2, instances_short c.args.tasks c.args.hyper c.instances_of-instances.result c.instances_of-instances.ensures pre.4)
-
 pub returns : goal.returns
-returns c = λ S e. ap (λ n. n + 2) c.signals_length.ensures.is ∙ length_is c.args.tasks S _ _ _ c.requires.3 c.instances_of-instances.ensures _ e
+returns c = let a = c.args.accepted.now in let own = (ready a.tasks a.signals a.grid a.hyper _ a.fits a.own refl).3 in
+    ap (λ n. n + 2) (c.signals_length.ensures.is ∙ ap₂ (λ g t. total (signal_bytes g c.new-users.result.instances t) a.signals.count) c.new-users.ensures.grid c.new-users.ensures.tasks) ∙ length_is a.tasks a.signals _ _ _ own c.new-users.ensures.instances _ refl

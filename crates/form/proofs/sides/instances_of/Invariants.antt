@@ -1,12 +1,9 @@
 use mathlib.Core.Path.{◌≡◌}
-use Prim.Native.Nat.{ℕ, ◌-◌, ◌/◌, ◌≤◌, ◌<◌}
+use Prim.Native.Nat.{ℕ, ◌/◌, ◌<◌}
 use lib.ListN.{get_or, length}
 use Rattle.rules.specs.Reading.{task_of}
 use Rattle.rules.specs.Table.{most_tasks}
 use Rattle.form.proofs.sides.instances_of.Given as goal
 
 abbrev pub invariant-loop-k : goal.invariant-loop-k
-invariant-loop-k l = (l.k ≤ l.tasks.count) × (length l.instances ≡ most_tasks) × ((j : ℕ) → j < l.k → get_or l.instances j 0 ≡ l.hyper / (task_of l.tasks j).period)
-
-abbrev pub decreases-loop-k : goal.decreases-loop-k
-decreases-loop-k l = l.tasks.count - l.k
+invariant-loop-k l = (length l.instances ≡ most_tasks) × ((j : ℕ) → j < l.k → get_or l.instances j 0 ≡ l.hyper / (task_of l.tasks j).period)

@@ -1,10 +1,6 @@
 -- The arrays hold the values that the first n events open, and the carried one.
-use Rattle.std.proofs.Common.{◌-◌, ◌≤◌}
 use Rattle.lives.specs.Values.{lives_below, Held}
 use Rattle.lives.proofs.values.values_of.Given as goal
 
-abbrev pub invariant-loop-n : goal.invariant-loop-n
-invariant-loop-n l = (l.n ≤ l.events.count) × Held (lives_below l.tasks l.grid l.signal l.hyper l.events.list l.n) l.held l.values l.count
-
-abbrev pub decreases-loop-n : goal.decreases-loop-n
-decreases-loop-n l = l.events.count - l.n
+abbrev pub invariant-loop-event : goal.invariant-loop-event
+invariant-loop-event l = Held (lives_below l.accepted.tasks l.accepted.grid l.signal l.accepted.hyper l.turns l.event-index) l.held l.values l.count

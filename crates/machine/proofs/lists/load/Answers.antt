@@ -1,25 +1,29 @@
 -- Loading: the table refused, the schedule refused, or both accepted.
-use mathlib.Core.Path.{sym, ◌∙◌}
-use Rattle.verdict.proofs.Loaded.{load_accepted, load_checked}
-use Rattle.machine.proofs.Load.{table_refused, refused_loads, both_checked, accepted_loads}
+use mathlib.Core.Path.{◌≡◌, refl, sym, ap, ◌∙◌}
+use Rattle.std.specs.Prelude.{Result, Ok}
+use Prim.Native.Nat.{ℕ}
+use Rattle.rules.specs.Numbers.{told}
+use Rattle.rules.specs.declared.Refusal.{Refusal}
+use Rattle.fields.proofs.Told.{handed_on}
+use Rattle.verdict.proofs.Loaded.{load_refused, load_checked}
+use Rattle.machine.proofs.Load.{broken_loads, both_checked, accepted_loads}
 use Rattle.machine.proofs.lists.load.Goals as goal
 
-pub returns-then-number-ne-DONE : goal.returns-then-number-ne-DONE
-returns-then-number-ne-DONE c = table_refused _ c.read_table-read.result c.read_table-read.ensures _ _ (λ e. c.if-number-ne-DONE.true (c.number.ensures ∙ e))
+pub returns-in_err-accepted : goal.returns-in_err-accepted
+returns-in_err-accepted c =
+    let e = handed_on c.from_residual.result c.in_err-accepted.field-0.0 c.from_residual.ensures in
+    rw e (broken_loads _ _ _ _ (load_refused _ _ _ c.in_err-accepted.ensures))
 
-pub check_with-answer-requires : goal.check_with-answer-requires
-check_with-answer-requires c = load_accepted _ c.read_table-read.result c.read_table-read.ensures (sym c.number.ensures ∙ c.if-number-ne-DONE.false) _ c.read_grid-grid.ensures
-
-pub returns-then-number-ne-DONE-2 : goal.returns-then-number-ne-DONE-2
-returns-then-number-ne-DONE-2 c = refused_loads _ _ _ c.check_with-answer.result
-    (load_checked _ c.read_table-read.result c.read_table-read.ensures (sym c.number.ensures ∙ c.if-number-ne-DONE.false) _ c.read_grid-grid.ensures
-    _ c.check_with-answer.ensures)
-    (λ e. c.if-number-ne-DONE-2.true (c.number-2.ensures ∙ e))
+pub returns-in_err-done : goal.returns-in_err-done
+returns-in_err-done c =
+    let e = handed_on c.from_residual-in_err-done.result c.in_err-done.field-0.0 c.from_residual-in_err-done.ensures in
+    let q = ap told (sym c.in_err-done.was) ∙ load_checked _ _ c.in_ok-accepted.ensures.0 c.in_ok-accepted.ensures.1 c.check_with.ensures in
+    rw e (broken_loads _ _ _ _ q)
 
 pub start-requires : goal.start-requires
-start-requires c = both_checked _ c.read_table-read.result c.read_table-read.ensures (sym c.number.ensures ∙ c.if-number-ne-DONE.false) _ c.read_grid-grid.ensures
-    _ c.check_with-answer.result c.check_with-answer.ensures (sym c.number-2.ensures ∙ c.if-number-ne-DONE-2.false)
+start-requires c = let a = c.in_ok-accepted in
+    both_checked _ a.accepted a.ensures _ c.check_with.result c.check_with.ensures (ap (λ (x : Result ℕ Refusal). (told x).number) c.in_ok-done.was)
 
 pub returns : goal.returns
-returns c = accepted_loads _ c.read_table-read.result c.read_table-read.ensures (sym c.number.ensures ∙ c.if-number-ne-DONE.false) _ c.read_grid-grid.ensures
-    _ c.check_with-answer.result c.check_with-answer.ensures (sym c.number-2.ensures ∙ c.if-number-ne-DONE-2.false) _ _ c.start.ensures
+returns c = let a = c.in_ok-accepted in
+    accepted_loads _ a.accepted a.ensures _ (Ok c.in_ok-done.done) (ap told (sym c.in_ok-done.was) ∙ c.check_with.ensures) refl _ _ c.start.ensures

@@ -1,16 +1,15 @@
 -- `plan::planning::plan` meets its contract. Assumes nothing.
-use Rattle.plan.proofs.Told.{refused, fits, accepted}
+use Rattle.fields.proofs.Told.{handed_on}
+use Rattle.plan.proofs.Told.{refused, accepted}
 use Rattle.plan.proofs.planning.plan.Goals as goal
 
-pub returns-then-read-eq0 : goal.returns-then-read-eq0
-returns-then-read-eq0 c = let a = c.args in
-    refused a.table.now c.read_table-read.result c.read_table-read.ensures c.if-read-eq0.true a.out.now
-
-pub plan_table-requires : goal.plan_table-requires
-plan_table-requires c = let a = c.args in
-    fits a.table.now c.read_table-read.result c.read_table-read.ensures c.if-read-eq0.false c.read_grid-grid.result c.read_grid-grid.ensures
+pub returns-in_err-accepted : goal.returns-in_err-accepted
+returns-in_err-accepted c =
+    let e = handed_on c.from_residual.result c.in_err-accepted.field-0.0 c.from_residual.ensures in
+    rw e (refused c.args.table.now c.args.out.now _ c.in_err-accepted.ensures)
 
 pub returns : goal.returns
-returns c = let a = c.args in
-    let P = c.plan_table.ensures in
-    accepted a.table.now c.read_table-read.result c.read_table-read.ensures c.if-read-eq0.false c.read_grid-grid.result c.read_grid-grid.ensures _ a.out.now _ P.0 P.1
+returns c =
+    let t = c.in_ok-accepted.ensures in
+    let P = c.plan_accepted.ensures in
+    accepted c.args.table.now c.args.out.now t.0 t.1 _ _ P.0 P.1

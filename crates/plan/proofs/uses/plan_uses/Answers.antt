@@ -1,63 +1,38 @@
--- `plan::uses::plan_uses` meets its contract. The loop's invariant: the signals below s are planned. Assumes nothing.
-use mathlib.Core.Path.{◌≡◌, refl}
+-- `uses::plan_uses` meets its contract. The loop's invariant: the signals below s are planned. Assumes nothing.
+use mathlib.Core.Path.{refl}
 use native.Mathlib.Numerals.{add-one}
 use native.Mathlib.Omega.{arith}
 use Rattle.elements.specs.Pass.{pass_table}
-use Rattle.elements.proofs.Signal.{few_elements}
 use Rattle.plan.specs.Uses.{uses_planned, counts_planned}
-use Rattle.plan.proofs.Laying.{first_none, table_ready, first_more, pass_ready, counts_turn, uses_turn}
+use Rattle.plan.proofs.Planned.{planning}
+use Rattle.plan.proofs.Laying.{first_none, listed, first_more, pass_ready, counts_turn, uses_turn}
 use Rattle.plan.proofs.uses.plan_uses.Goals as goal
 
-pub order_events-events-requires : goal.order_events-events-requires
-order_events-events-requires c = (c.requires.fits, c.requires.hyper)
-
-pub instances_of-instances-requires : goal.instances_of-instances-requires
-instances_of-instances-requires c = let a = c.args in
-    let R = table_ready a.tasks a.signals a.grid.now a.hyper c.requires in
-    (R.0, R.1)
+pub order_events-ordered-requires : goal.order_events-ordered-requires
+order_events-ordered-requires c = let a = c.args.accepted.now in let P = planning a.tasks a.signals a.grid a.hyper a.signals.count a.fits a.own refl in (P.fits, P.hyper)
 
 pub loop-s-init : goal.loop-s-init
 unfolding counts_planned uses_planned
-loop-s-init c = (omega arith, first_none _, refl, refl)
+loop-s-init c = (first_none _, refl, refl)
 
-pub number_uses-laid-requires : goal.number_uses-laid-requires
-number_uses-laid-requires c = let a = c.args in
-    let I = c.loop-s.invariant in
-    let more = first_more a.tasks a.signals a.grid.now a.hyper c.requires c.instances_of-instances.result c.instances_of-instances.ensures c.loop-s.s (omega arith) in
-    ((table_ready a.tasks a.signals a.grid.now a.hyper c.requires).0, omega (arith, c.requires.few_signals), omega (arith, more, I.1))
+pub number_uses-numbers-requires : goal.number_uses-numbers-requires
+number_uses-numbers-requires c = let a = c.args.accepted.now in let P = planning a.tasks a.signals a.grid a.hyper a.signals.count a.fits a.own refl in
+    let u = c.new-users.ensures in
+    let more = first_more a.tasks a.signals.count a.grid a.hyper P c.new-users.result.instances u.instances c.loop-s.s u.grid u.tasks c.loop-s-test.true in
+    (omega (arith, P.few_signals), omega (arith, more, c.loop-s.invariant.0))
 
 pub plan_signal-requires : goal.plan_signal-requires
-plan_signal-requires c = let a = c.args in
-    let I = c.loop-s.invariant in
-    pass_ready a.tasks a.signals a.grid.now a.hyper c.requires c.instances_of-instances.result c.instances_of-instances.ensures c.loop-s.s _ c.number_uses-laid.result c.order_events-events.result (omega arith) I.1 c.number_uses-laid.ensures c.order_events-events.ensures
-
-pub overflow_cast-counts : goal.overflow_cast-counts
-overflow_cast-counts c = let a = c.args in
-    omega (arith, c.plan_signal.ensures.0, few_elements (pass_table a.tasks a.grid.now) c.loop-s.s c.loop-s.uses)
-
-pub bounds-counts-s : goal.bounds-counts-s
-bounds-counts-s c = omega (arith, c.requires.few_signals, c.loop-s-test.true)
-
-pub overflow_add-s : goal.overflow_add-s
-overflow_add-s c = omega (arith, c.requires.few_signals, c.loop-s-test.true)
-
-pub loop-s-smaller : goal.loop-s-smaller
-loop-s-smaller c = omega (arith, c.loop-s-test.true)
+plan_signal-requires c = let a = c.args.accepted.now in let P = planning a.tasks a.signals a.grid a.hyper a.signals.count a.fits a.own refl in
+    let u = c.new-users.ensures in
+    pass_ready a.tasks a.signals.count a.grid a.hyper P c.new-users.result.instances u.instances c.loop-s.s _ c.number_uses-numbers.result _ u.grid u.tasks c.loop-s-test.true c.loop-s.invariant.0 c.number_uses-numbers.ensures.numbered (listed _ _ c.order_events-ordered.ensures)
 
 pub loop-s-preserved : goal.loop-s-preserved
-loop-s-preserved c = let a = c.args in
+loop-s-preserved c = let a = c.args.accepted.now in let P = planning a.tasks a.signals a.grid a.hyper a.signals.count a.fits a.own refl in
+    let u = c.new-users.ensures in
     let L = c.loop-s in
-    let I = L.invariant in
-    let taken = c.loop-s-test.true in
-    let more = first_more a.tasks a.signals a.grid.now a.hyper c.requires c.instances_of-instances.result c.instances_of-instances.ensures L.s taken in
-    let tab = pass_table a.tasks a.grid.now in (
-      omega (arith, taken),
-      rw (add-one L.s) (omega (arith, more, I.1, c.number_uses-laid.ensures.end)),
-      counts_turn tab a.counts.now a.uses.now L.counts L.uses L.s _ I.2 I.3 c.plan_signal.ensures.0,
-      uses_turn tab a.uses.now L.uses _ L.s I.3 c.plan_signal.ensures.1,
+    let more = first_more a.tasks a.signals.count a.grid a.hyper P c.new-users.result.instances u.instances L.s u.grid u.tasks c.loop-s-test.true in
+    let tab = pass_table a.tasks a.grid in (
+      rw (add-one L.s) (omega (arith, more, L.invariant.0, c.number_uses-numbers.ensures.next)),
+      counts_turn tab c.args.counts.now c.args.uses.now L.counts L.uses L.s _ L.invariant.1 L.invariant.2 c.plan_signal.ensures.chosen.0,
+      uses_turn tab c.args.uses.now L.uses _ L.s L.invariant.2 c.plan_signal.ensures.chosen.1,
     )
-
-pub returns : goal.returns
-returns c = let e : c.loop-s.s ≡ c.args.signals = omega arith in
-    let I = c.loop-s.invariant in
-    (rw e at I.2, rw e at I.3)

@@ -1,12 +1,8 @@
 use mathlib.Core.Path.{◌≡◌}
-use Prim.Native.Nat.{◌-◌, ◌≤◌}
 use Rattle.theory.specs.Chosen.{first_use}
 use Rattle.elements.specs.Pass.{pass_table}
 use Rattle.plan.specs.Uses.{uses_planned, counts_planned}
 use Rattle.plan.proofs.uses.plan_uses.Given as goal
 
 abbrev pub invariant-loop-s : goal.invariant-loop-s
-invariant-loop-s l = (l.s ≤ l.signals) × (l.first ≡ first_use (pass_table l.tasks l.grid) l.s) × (l.counts ≡ counts_planned (pass_table l.tasks l.grid) l.initial.counts l.initial.uses l.s) × (l.uses ≡ uses_planned (pass_table l.tasks l.grid) l.initial.uses l.s)
-
-abbrev pub decreases-loop-s : goal.decreases-loop-s
-decreases-loop-s l = l.signals - l.s
+invariant-loop-s l = (l.next ≡ first_use (pass_table l.accepted.tasks l.accepted.grid) l.s) × (l.counts ≡ counts_planned (pass_table l.accepted.tasks l.accepted.grid) l.initial.counts l.initial.uses l.s) × (l.uses ≡ uses_planned (pass_table l.accepted.tasks l.accepted.grid) l.initial.uses l.s)

@@ -1,12 +1,9 @@
 use mathlib.Core.Path.{◌≡◌}
-use Prim.Native.Nat.{◌-◌, ◌≤◌}
+use Prim.Native.Nat.{◌≤◌}
 use Rattle.rules.specs.Table.{longest}
 use Rattle.rules.specs.Reading.{reads_in}
 use Rattle.signals.specs.Forms.{reach_below}
 use Rattle.signals.proofs.untils.until.Given as goal
 
 abbrev pub invariant-loop-k : goal.invariant-loop-k
-invariant-loop-k l = (l.k ≤ l.tasks.count) × (l.reached ≡ reach_below l.tasks (reads_in l.grid l.signal) l.published l.next l.k) × (l.next ≤ longest)
-
-abbrev pub decreases-loop-k : goal.decreases-loop-k
-decreases-loop-k l = l.tasks.count - l.k
+invariant-loop-k l = (l.reached ≡ reach_below l.tasks (reads_in l.grid l.signal) l.published l.next l.k) × (l.next ≤ longest)

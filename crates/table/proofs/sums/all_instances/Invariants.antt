@@ -1,11 +1,7 @@
-use mathlib.Core.Path.{◌≡◌}
-use Prim.Native.Nat.{◌-◌, ◌*◌, ◌≤◌}
+use Rattle.std.proofs.Common.{◌≡◌, ◌*◌, ◌≤◌}
 use Rattle.rules.specs.Table.{longest}
 use Rattle.table.specs.Forms.{instances_in}
 use Rattle.table.proofs.sums.all_instances.Given as goal
 
-abbrev pub invariant-loop-k : goal.invariant-loop-k
-invariant-loop-k l = (l.k ≤ l.tasks.count) × (l.sum ≡ instances_in l.tasks l.hyper l.k) × (l.sum ≤ longest * l.k)
-
-abbrev pub decreases-loop-k : goal.decreases-loop-k
-decreases-loop-k l = l.tasks.count - l.k
+abbrev pub invariant-loop-task : goal.invariant-loop-task
+invariant-loop-task l = (l.sum ≡ instances_in l.fn.windowed.tasks l.hyper l.task-index) × (l.sum ≤ longest * l.task-index)

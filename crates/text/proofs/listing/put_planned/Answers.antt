@@ -1,38 +1,44 @@
 -- `put_planned` meets its contract: at each turn the records that are left make the page whole. Assumes nothing.
-use mathlib.Core.Path.{refl, ◌∙◌}
-use native.Mathlib.Omega.{arith}
-use Rattle.text.proofs.Walked.{start, headed, part_length, room, turn, end}
+use Rattle.std.proofs.Common.{◌≡◌, ◌-◌, length, take, drop, refl, ◌∙◌, arith, length-drop}
+use lib.Seq.{take_all}
+use Rattle.text.proofs.Walked.{start, headed, turn, end}
 use Rattle.text.proofs.listing.put_planned.Goals as goal
 
-pub loop-at-init : goal.loop-at-init
-loop-at-init c = (refl, (_, start _ _ _ _ c.requires.bytes))
-
-pub overflow_add-at : goal.overflow_add-at
-overflow_add-at c = omega (arith, room c.loop-at.invariant.1.1)
-
-pub slice_bounds-list_record-count : goal.slice_bounds-list_record-count
-slice_bounds-list_record-count c = omega arith
-
-pub slice_bounds-list_record-start : goal.slice_bounds-list_record-start
-slice_bounds-list_record-start c = omega arith
-
-pub slice_bounds-list_record-end : goal.slice_bounds-list_record-end
-slice_bounds-list_record-end c = omega arith
+pub loop-rest-init : goal.loop-rest-init
+loop-rest-init c = record { same_buffer = refl; records = (_, start _ _ _ c.requires.bytes) }
 
 pub list_record-listed-requires : goal.list_record-listed-requires
-list_record-listed-requires c = omega (arith, (turn c.loop-at.invariant.1.1 c.loop-at-test.true).within, part_length c.args.schedule.now c.loop-at.at)
+list_record-listed-requires c = (turn c.loop-rest.invariant.records.1 c.loop-rest-test.true).within
 
 pub overflow_add-sum : goal.overflow_add-sum
-overflow_add-sum c = omega (arith, (turn c.loop-at.invariant.1.1 c.loop-at-test.true).few, c.list_record-listed.ensures.1, c.requires.few)
+overflow_add-sum c = omega (arith, (turn c.loop-rest.invariant.records.1 c.loop-rest-test.true).few, c.list_record-listed.ensures.1, c.requires.few)
 
-pub overflow_add-at-in-loop-at : goal.overflow_add-at-in-loop-at
-overflow_add-at-in-loop-at c = omega (arith, (turn c.loop-at.invariant.1.1 c.loop-at-test.true).within, c.list_record-listed.ensures.0)
+pub slice_bounds-rest-count : goal.slice_bounds-rest-count
+slice_bounds-rest-count c = omega (arith, (turn c.loop-rest.invariant.records.1 c.loop-rest-test.true).within, c.list_record-listed.ensures.0)
 
-pub loop-at-smaller : goal.loop-at-smaller
-loop-at-smaller c = omega (arith, (turn c.loop-at.invariant.1.1 c.loop-at-test.true).some, c.loop-at-test.true, c.list_record-listed.ensures.0)
+pub slice_bounds-rest-start : goal.slice_bounds-rest-start
+slice_bounds-rest-start c = omega (arith, (turn c.loop-rest.invariant.records.1 c.loop-rest-test.true).within, c.list_record-listed.ensures.0)
 
-pub loop-at-preserved : goal.loop-at-preserved
-loop-at-preserved c = (c.list_record-listed.auto.out ∙ c.loop-at.invariant.0, (_, (turn c.loop-at.invariant.1.1 c.loop-at-test.true).next _ _ c.list_record-listed.ensures))
+pub loop-rest-smaller : goal.loop-rest-smaller
+loop-rest-smaller c =
+    let T = turn c.loop-rest.invariant.records.1 c.loop-rest-test.true in
+    let s = c.list_record-listed.ensures.0 in
+    let rest = c.loop-rest.rest.now in
+    let n = c.list_record-listed.result.size in
+    let e : take (length rest - n) (drop n rest) ≡ drop n rest = take_all (length rest - n) (drop n rest) (simp length-drop (omega arith)) in
+    simp (e, length-drop) (omega (arith, T.within, T.some))
+
+pub loop-rest-preserved : goal.loop-rest-preserved
+loop-rest-preserved c =
+    let T = turn c.loop-rest.invariant.records.1 c.loop-rest-test.true in
+    let l = c.list_record-listed.ensures in
+    let rest = c.loop-rest.rest.now in
+    let n = c.list_record-listed.result.size in
+    let e : take (length rest - n) (drop n rest) ≡ drop n rest = take_all (length rest - n) (drop n rest) (simp length-drop (omega arith)) in
+    record { same_buffer = l.2.0 ∙ c.loop-rest.invariant.same_buffer; records = (T.others, rw e (T.next l.0 l.1 l.2.1)) }
 
 pub returns : goal.returns
-returns c = c.put_total.ensures ∙ end c.loop-at.invariant.1.1 c.loop-at-test.false ∙ headed _ _ c.hyper_of.ensures c.put_hyper-used.ensures
+returns c = (
+  c.put_total.ensures.0 ∙ c.loop-rest.invariant.same_buffer ∙ c.put_hyper.ensures.0,
+  c.put_total.ensures.1 ∙ end c.loop-rest.invariant.records.1 c.loop-rest-test.false ∙ headed _ _ c.hyper_of.ensures c.put_hyper.ensures.1,
+)
