@@ -46,7 +46,7 @@ const LIST: &[u8] = b"list";
 // The longest buffer that the bench lends.
 pub const MOST_PLANNED: u64 = 29000;
 
-// As wide as the number it bounds.
+// As wide as the number it bounds. usize has no From to u64, and a constant's value calls no `try_from`.
 const MOST_RECORDS: u64 = rules::MOST_LENT as u64;
 
 pub const MOST_STEPS: u64 = 1000000;
@@ -62,38 +62,27 @@ fn on_hex(command: Command, word: &[u8]) -> Option<Command>
     is_hex(word).then_some(command)
 }
 
-// Tests and no `match` on `b"step"`: of a match each byte that differs is a return of its own to answer.
 fn of_name(name: &[u8]) -> Option<Command>
     ensures { result ≡ alone name.now }
 {
-    if name == STEP {
-        return Some(Command::Steps(1));
+    match name {
+        STEP => Some(Command::Steps(1)),
+        LIST => Some(Command::Listing),
+        _ => None,
     }
-    if name == LIST {
-        return Some(Command::Listing);
-    }
-    None
 }
 
 fn with_one(name: &[u8], word: &[u8]) -> Option<Command>
     ensures { result ≡ with_one name.now word.now }
 {
-    if name == TABLE {
-        return on_hex(Command::Table, word);
+    match name {
+        TABLE => on_hex(Command::Table, word),
+        CHECK => on_hex(Command::Check, word),
+        LOAD => on_hex(Command::Load, word),
+        PLAN => Some(Command::Plan(number(word, MOST_PLANNED)?)),
+        STEP => Some(Command::Steps(number(word, MOST_STEPS)?)),
+        _ => None,
     }
-    if name == CHECK {
-        return on_hex(Command::Check, word);
-    }
-    if name == LOAD {
-        return on_hex(Command::Load, word);
-    }
-    if name == PLAN {
-        return Some(Command::Plan(number(word, MOST_PLANNED)?));
-    }
-    if name == STEP {
-        return Some(Command::Steps(number(word, MOST_STEPS)?));
-    }
-    None
 }
 
 fn with_two(name: &[u8], words: &[u8]) -> Option<Command>
@@ -101,13 +90,11 @@ fn with_two(name: &[u8], words: &[u8]) -> Option<Command>
 {
     let first = first_word(words);
     let second = after_word(words);
-    if name == LIVE {
-        return Some(Command::Live(number(first, ANY)?, number(second, MOST_RECORDS)?));
+    match name {
+        LIVE => Some(Command::Live(number(first, ANY)?, number(second, MOST_RECORDS)?)),
+        READ => Some(Command::Read(number(first, ANY)?, number(second, ANY)?)),
+        _ => None,
     }
-    if name == READ {
-        return Some(Command::Read(number(first, ANY)?, number(second, ANY)?));
-    }
-    None
 }
 
 fn with_three(name: &[u8], words: &[u8]) -> Option<Command>

@@ -38,7 +38,7 @@ pub fn is_hex(word: &[u8]) -> bool
         || !word.is_empty() && word.len() % 2 == 0 && word.iter().all(|b| b.is_ascii_hexdigit())
 }
 
-// Half a byte; a byte that is no hex digit counts as 0.
+// Half a byte; a byte that is no hex digit counts as 0. The cast is proved to keep it; `try_from` would add a case that never comes.
 fn half(b: u8) -> u8
     ensures { result ≡ half_of b }
 {

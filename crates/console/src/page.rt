@@ -19,6 +19,7 @@ pub const DASH: u8 = b'-';
 // A number of 64 bits has no more figures than this.
 const MOST_FIGURES: usize = 20;
 
+// A lent buffer with its length, and no String: the project has no heap.
 #[derive(Drop)]
 pub struct Page<'a> {
     pub bytes: &'a mut [u8],
@@ -50,6 +51,7 @@ impl<'a> Page<'a> {
         }
     }
 
+    // One by one, and not by `copy_from_slice`: what does not fit is left out, and `put` says so once.
     pub fn put_all(&mut self, bytes: &[u8])
         ensures { Puts bytes.now self.old self.new }
     {
@@ -59,6 +61,8 @@ impl<'a> Page<'a> {
     }
 
     // The front figures come first, so each call leaves them to one with a tenth of the number.
+    // A loop would be no plainer: it meets the last figure first, and would need a buffer to turn them round in. No Display: `fmt` says of a number that
+    // it is written, and `decimal_of`, which the listing's contract names, says which characters. The casts are proved to keep one figure.
     fn put_figures(&mut self, n: u64, most: usize)
         ensures { Puts (figures most n) self.old self.new }
     {

@@ -1,4 +1,4 @@
--- The code's steps are those of the pass that makes the plan. Assumes nothing.
+-- The lowest free element as the code finds it is that of the plan. Assumes nothing.
 use mathlib.Core.Bool.{Bool, true, false, cond}
 use Rattle.std.proofs.lemmas.List.Recursion.{is_position_or_len}
 use mathlib.Core.List.{List}
@@ -8,7 +8,6 @@ use native.Mathlib.Omega.{arith}
 use lib.ListN.{length, length-take, take, get_or}
 use Rattle.rules.specs.Table.{most_elements}
 use Rattle.rules.specs.Reading.{table_of, no_tasks, no_signals, no_grid}
-use Rattle.rules.specs.declared.Task.{Task}
 use Rattle.std.specs.Prelude.{Option, Some, None}
 use Rattle.std.specs.Option.{unwrap_or}
 use Rattle.std.specs.List.{position, position_or_len}
@@ -17,12 +16,8 @@ use borrow.Author.Tests.{ltb-true, ltb-false}
 use Rattle.theory.proofs.Tests.{split}
 use Rattle.theory.proofs.Untils.{first_within}
 use Rattle.theory.specs.Untils.{first_free}
-use Rattle.theory.specs.Sweep.{task_in, tick_in, is_opening}
-use Rattle.theory.specs.Chosen.{Choice, followed}
 use Rattle.theory.proofs.Chosen.{free_is}
-use Rattle.elements.specs.declared.pass.Access.{Access}
 use Rattle.elements.specs.Steps.{free_in}
-use Rattle.elements.specs.Pass.{reads_by, writes_by, turn_of}
 
 -- the first element that is free
 pub free_position : (t : ℕ) (us : List ℕ) → position_or_len (λ u. leb u t) us ≡ first_free us t
@@ -46,18 +41,3 @@ free_taken held t {p} {r} l e h =
 -- the lowest free element: no table has more
 pub free_in_lem : (held : List ℕ) (t e : ℕ) → e < most_elements → (e < most_elements - 1 → get_or held e 0 ≤ t) → ((d : ℕ) → d < e → t < get_or held d 0) → free_in held t ≡ e
 free_in_lem held t e h f g = free_is (table_of no_tasks no_signals no_grid) held t e h f g
-
--- ---- an opening or a closing
-
-module _ (task : Task) (access : Access) where
-  pub turn_opens : (n : ℕ) (c : Choice) → is_opening n ≡ true → writes_by task access (task_in n) (tick_in n) (reads_by task access (tick_in n) c) ≡ turn_of task access n c
-  unfolding turn_of
-  turn_opens n c e = rw e
-
-  pub turn_publishes : (n : ℕ) (c : Choice) → is_opening n ≡ false → access.writes ≡ true → followed c (task_in n) (tick_in n) ≡ turn_of task access n c
-  unfolding turn_of
-  turn_publishes n c e w = rw (e, w)
-
-  pub turn_ends : (n : ℕ) (c : Choice) → is_opening n ≡ false → access.writes ≡ false → c ≡ turn_of task access n c
-  unfolding turn_of
-  turn_ends n c e w = rw (e, w)

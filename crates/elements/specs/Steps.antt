@@ -11,4 +11,4 @@ free_in held t = first_free (take (most_elements - 1) held) t
 
 -- with the elements of the uses so far
 abbrev pub choice_of : Elements → List ℕ → Choice
-choice_of e uses = record { held = e.held; own = e.own; current = e.current; reach = e.reach; count = e.count; uses = uses }
+choice_of e uses = record { held = e.standing.held; own = e.own; current = e.standing.current; reach = e.standing.reach; count = e.count; uses = uses }

@@ -3,13 +3,12 @@
 
 mod free;
 mod pass;
+mod standing;
 mod state;
 
 pub use free::first_free;
 pub use pass::{Numbers, plan_signal};
+pub use standing::{NEVER, Standing};
 
 // The last element that a signal may have.
 pub const LAST: usize = rules::MOST_ELEMENTS - 1;
-
-// No window opens at this tick or later: so long is an element held whose value is being written or stands.
-pub const NEVER: u32 = rules::LONGEST;

@@ -1,4 +1,5 @@
-// The pass over the openings and closings of a hyper-period.
+// The pass over the openings and closings of a hyper-period. std has no From from u32 to usize: an instance's number is cast, and
+// keeps its value; `try_from` would add a case that never comes.
 ghost use Rattle.std.specs.Prelude.{◌≡◌, ◌<◌, ◌≤◌};
 ghost use Rattle.rules.specs.Table.{most_tasks, most_elements};
 ghost use Rattle.theory.specs.Chosen.{chosen};
@@ -6,8 +7,9 @@ ghost use Rattle.elements.specs.Steps.{choice_of};
 ghost use Rattle.elements.specs.Pass.{Opens, reads_by, writes_by, Turns, turn_of, pass_table, Ready};
 
 use crate::state::Elements;
-use events::KIND;
-use rules::{MOST_SIGNALS, MOST_TASKS, MOST_USES, Task, Tasks};
+use accept::Accepted;
+use events::{is_opening, task_in, tick_in};
+use rules::{MOST_TASKS, MOST_USES, Task};
 use signals::{reads, writes};
 
 // The numbers of each task's first uses of a signal, as a writer and as a reader.
@@ -17,24 +19,22 @@ pub struct Numbers {
     pub readers: [usize; MOST_TASKS],
 }
 
-// The rights of a task to the signal, and the numbers of its first uses.
+// The numbers of a task's first uses of the signal, each where the task has that right.
 #[derive(Clone, Copy)]
-pub struct Access {
-    pub reads: bool,
-    pub writes: bool,
-    pub reader: usize,
-    pub writer: usize,
+pub struct FirstUses {
+    pub read: Option<usize>,
+    pub write: Option<usize>,
 }
 
 impl Elements {
     // A task that reads the signal is sent to the element that stands.
-    fn reader_opens(&mut self, task: Task, access: Access, tick: u32, uses: &mut [u8; MOST_USES])
-        requires { Opens task access tick }
-        ensures { choice_of self.new uses.new ≡ reads_by task access tick (choice_of self.old uses.old) }
+    fn reader_opens(&mut self, task: Task, first: FirstUses, tick: u32, uses: &mut [u8; MOST_USES])
+        requires { Opens task first tick }
+        ensures { choice_of self.new uses.new ≡ reads_by task first tick (choice_of self.old uses.old) }
     {
-        if access.reads {
+        if let Some(number) = first.read {
             let i = tick / task.period;
-            self.send(uses, access.reader + i as usize, i * task.period + task.end);
+            self.send(uses, number + i as usize, i * task.period + task.end);
         }
     }
 
@@ -42,34 +42,34 @@ impl Elements {
     fn writer_opens(
         &mut self,
         task: Task,
-        access: Access,
+        first: FirstUses,
         k: usize,
         tick: u32,
         uses: &mut [u8; MOST_USES],
     )
-        requires { Opens task access tick × (k < most_tasks) }
-        ensures { choice_of self.new uses.new ≡ writes_by task access k tick (choice_of self.old uses.old) }
+        requires { Opens task first tick × (k < most_tasks) }
+        ensures { choice_of self.new uses.new ≡ writes_by task first k tick (choice_of self.old uses.old) }
     {
-        if access.writes {
+        if let Some(number) = first.write {
             let i = tick / task.period;
-            self.take(uses, access.writer + i as usize, k, tick);
+            self.take(uses, number + i as usize, k, tick);
         }
     }
 
     // One opening or closing.
-    fn turn(&mut self, task: Task, access: Access, event: u32, uses: &mut [u8; MOST_USES])
-        requires { Turns task access event }
-        ensures { choice_of self.new uses.new ≡ turn_of task access event (choice_of self.old uses.old) }
+    #[tactic(auto, unfolding(crate::specs::Pass::turn_of))]
+    fn turn(&mut self, task: Task, first: FirstUses, event: u32, uses: &mut [u8; MOST_USES])
+        requires { Turns task first event }
+        ensures { choice_of self.new uses.new ≡ turn_of task first event (choice_of self.old uses.old) }
     {
-        let k = (event % KIND) as usize;
-        let kind = event / KIND;
-        let tick = kind / 2;
-        if kind % 2 == 1 {
-            self.reader_opens(task, access, tick, uses);
-            self.writer_opens(task, access, k, tick, uses);
+        let k = task_in(event);
+        let tick = tick_in(event);
+        if is_opening(event) {
+            self.reader_opens(task, first, tick, uses);
+            self.writer_opens(task, first, k, tick, uses);
             return;
         }
-        if access.writes {
+        if first.write.is_some() {
             self.publish(k, tick);
         }
     }
@@ -77,27 +77,27 @@ impl Elements {
 
 // The elements of the signal's uses, in the order of their records, and how many elements there are.
 pub fn plan_signal(
-    tasks: Tasks,
-    grid: &[[u8; MOST_SIGNALS]; MOST_TASKS],
+    accepted: &Accepted,
     signal: usize,
     events: &[u32],
     numbers: Numbers,
     uses: &mut [u8; MOST_USES],
 ) -> u32
-    requires { Ready tasks grid.now signal events.now numbers }
+    requires { Ready accepted.now signal events.now numbers }
     ensures few { result ≤ most_elements }
-    ensures chosen { (result ≡ (chosen (pass_table tasks grid.now) signal uses.old).count) × (uses.new ≡ (chosen (pass_table tasks grid.now) signal uses.old).uses) }
+    ensures chosen { (result ≡ (chosen (pass_table accepted.now.tasks accepted.now.grid) signal uses.old).count) × (uses.new ≡ (chosen (pass_table accepted.now.tasks accepted.now.grid) signal uses.old).uses) }
 {
     let mut elements = Elements::new();
     for &event in events {
-        let k = (event % KIND) as usize;
-        let access = Access {
-            reads: reads(grid, k, signal),
-            writes: writes(grid, k, signal),
-            reader: numbers.readers[k],
-            writer: numbers.writers[k],
-        };
-        elements.turn(tasks.list[k], access, event, uses);
+        let k = task_in(event);
+        let read = reads(&accepted.grid, k, signal).then_some(numbers.readers[k]);
+        let write = writes(&accepted.grid, k, signal).then_some(numbers.writers[k]);
+        elements.turn(
+            accepted.tasks.list[k],
+            FirstUses { read, write },
+            event,
+            uses,
+        );
     }
     elements.count
 }

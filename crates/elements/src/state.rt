@@ -1,21 +1,17 @@
-// What an opening or a closing does to the elements of a signal.
+// What an opening or a closing does to the elements of a signal. Each cast is proved to keep the number; try_from would add a refusal that never comes.
 ghost use Rattle.std.specs.Prelude.{◌≡◌, ℕ, ◌<◌, ◌≤◌, get_or};
 ghost use Rattle.rules.specs.Table.{most_tasks, most_uses, most_elements};
 
-use crate::NEVER;
 use crate::free::first_free;
-use rules::{CARRIED_ELEMENT, MOST_ELEMENTS, MOST_TASKS, MOST_USES};
+use crate::standing::{NEVER, Standing};
+use rules::{MOST_TASKS, MOST_USES};
 
-// Until when each element is held, and the element that each task took last. Of the value that stands, its element and the last
-// closing of the readers sent to it. One more than the highest element taken.
+// What stands, and the element that each task took last. One more than the highest element taken.
 #[derive(Drop)]
 pub struct Elements {
-    pub held: [u32; MOST_ELEMENTS],
+    pub standing: Standing,
     pub own: [usize; MOST_TASKS],
-    pub current: usize,
-    pub reach: u32,
     pub count: u32,
-    pub ghost stands: { current < most_elements },
     pub ghost owned: { (k : ℕ) → get_or own k 0 < most_elements },
     pub ghost few: { count ≤ most_elements },
 }
@@ -30,13 +26,9 @@ impl Elements {
     pub fn new() -> Elements
         ensures { (uses : List ℕ) → choice_of result uses ≡ unchosen (table_of no_tasks no_signals no_grid) 0 uses }
     {
-        let mut held = [0; MOST_ELEMENTS];
-        held[CARRIED_ELEMENT] = NEVER;
         Elements {
-            held,
+            standing: Standing::new(),
             own: [0; MOST_TASKS],
-            current: CARRIED_ELEMENT,
-            reach: 0,
             count: 1,
         }
     }
@@ -46,17 +38,17 @@ impl Elements {
         requires { number < most_uses }
         ensures { choice_of self.new uses.new ≡ sent (choice_of self.old uses.old) number closing }
     {
-        uses[number] = self.current as u8;
-        self.reach = self.reach.max(closing);
+        uses[number] = self.standing.current as u8;
+        self.standing.reach = self.standing.reach.max(closing);
     }
 
     // A writer takes the lowest free element, and holds it.
     pub fn take(&mut self, uses: &mut [u8; MOST_USES], number: usize, task: usize, tick: u32)
         requires { (number < most_uses) × (task < most_tasks) }
-        ensures { choice_of self.new uses.new ≡ taken (choice_of self.old uses.old) number task (free_in self.old.held tick) }
+        ensures { choice_of self.new uses.new ≡ taken (choice_of self.old uses.old) number task (free_in self.old.standing.held tick) }
     {
-        let e = first_free(&self.held, tick);
-        self.held[e] = NEVER;
+        let e = first_free(&self.standing.held, tick);
+        self.standing.held[e] = NEVER;
         self.own[task] = e;
         uses[number] = e as u8;
         self.count = self.count.max(e as u32 + 1);
@@ -67,8 +59,6 @@ impl Elements {
         requires { task < most_tasks }
         ensures { (uses : List ℕ) → choice_of self.new uses ≡ followed (choice_of self.old uses) task tick }
     {
-        self.held[self.current] = tick.max(self.reach);
-        self.current = self.own[task];
-        self.reach = 0;
+        self.standing.publish(self.own[task], tick);
     }
 }

@@ -1,16 +1,17 @@
 -- The openings and closings of every table with these tasks are those of the tasks alone. Assumes nothing.
-use mathlib.Core.Path.{◌≡◌, refl}
+use mathlib.Core.Path.{◌≡◌, refl, ◌∙◌}
 use Prim.Native.Nat.{◌*◌, ◌≤◌, zero-le}
 use native.Mathlib.Nat.{not-suc-le-zero, zero-mul}
 use native.Mathlib.Omega.{arith}
 use Rattle.rules.specs.Words.{total}
 use Rattle.rules.specs.Windows.{hyper, instances}
 use Rattle.rules.specs.Table.{accesses_of, accesses, uses, most_accesses, most_uses, Fits}
-use Rattle.rules.specs.Reading.{Grid, table_of, no_signals}
+use Rattle.rules.specs.Reading.{Grid, table_of, no_signals, no_grid}
 use Rattle.rules.specs.declared.Tasks.{Tasks}
 use Rattle.rules.specs.declared.Signals.{Signals}
 use Rattle.theory.specs.Sweep.{events}
 use Rattle.theory.proofs.Sums.{total_none, total_same}
+use Rattle.accept.specs.declared.Accepted.{Accepted}
 use Rattle.events.specs.Order.{tasks_table}
 
 -- without signals there is no access, whatever the grid
@@ -47,3 +48,11 @@ module _ (tasks : Tasks) (signals : Signals) (grid : Grid) where
     few_uses = no_uses tasks other;
     single = λ s h. absurd (not-suc-le-zero h);
   }
+
+-- what an accepted table says of its tasks alone
+module _ (a : Accepted) where
+  pub fits_tasks : Fits (tasks_table a.tasks)
+  fits_tasks = fits_alone a.tasks a.signals a.grid a.fits no_grid
+
+  pub hyper_tasks : a.hyper ≡ hyper (tasks_table a.tasks)
+  hyper_tasks = a.own ∙ hyper_alone a.tasks a.signals a.grid

@@ -21,7 +21,7 @@ use Rattle.rules.specs.Answers.{sharing}
 use Rattle.rules.specs.Reading.{Grid, writes_in}
 use Rattle.theory.proofs.Tests.{agree, no_test, not_both, both, both3, and_is, is, holds, unless, unless_is, or_cases, or_left, or_right}
 use Rattle.theory.proofs.Check.{every_at, every_is, writer_at, writer_is}
-use Rattle.form.specs.declared.sides.Side.{Side}
+use Rattle.rules.specs.declared.Side.{Side}
 use Rattle.faults.specs.declared.view.View.{View}
 use Rattle.faults.specs.declared.sharing.Held.{Held}
 use Rattle.faults.specs.declared.untils.Untils.{Untils}

@@ -1,28 +1,32 @@
 -- Each WI of a signal has its own number, so that the end of each life is kept at a place of its own.
 use mathlib.Core.Path.{◌≡◌, refl, sym, ap, ap₂, subst, ◌∙◌}
 use mathlib.Core.List.{List}
-use Prim.Native.Nat.{ℕ, suc, ◌+◌, ◌*◌, ◌≤◌, ◌<◌}
+use mathlib.Core.Bool.{Bool, true, false}
+use Prim.Native.Nat.{ℕ, suc, ◌+◌, ◌*◌, ◌≤◌, ◌<◌, zero-le}
+use native.Mathlib.Nat.{le_refl}
 use native.Mathlib.Omega.{arith}
 use lib.Dec.{eqb}
 use lib.ListN.{length, get_or, set, length-set}
 use lib.Seq.{get_or-set_same, get_or-set_other}
 use borrow.Author.Tests.{eqb-true, eqb-false}
 use Rattle.rules.specs.Words.{total, times}
-use Rattle.rules.specs.Windows.{Table, hyper, instances}
+use Rattle.rules.specs.Windows.{Table, instances}
 use Rattle.rules.specs.Values.{carried, by, until}
 use Rattle.rules.specs.Table.{most_tasks, most_instances, most_values}
 use Rattle.rules.specs.Bytes.{writers_below}
-use Rattle.rules.specs.Reading.{writes_in}
 use Rattle.theory.proofs.Tests.{split}
-use Rattle.form.specs.declared.sides.Side.{Side}
-use Rattle.events.proofs.Alone.{fits_alone}
+use Rattle.rules.specs.declared.Side.{Side}
+use Rattle.theory.proofs.Sums.{total_mono}
 use Rattle.sweep.proofs.Inspected.{total_within}
-use Rattle.sweep.proofs.Rows.{row_few}
 use Rattle.accept.specs.declared.Accepted.{Accepted}
 use Rattle.faults.specs.declared.view.View.{View}
 use Rattle.faults.specs.declared.untils.Writer.{Writer}
 use Rattle.faults.specs.Faults.{view_table, view_schedule, Has, records_in, view_records, held_of, number_of, KeptBelow, KeptTo, Kept, writer_of, held_at, InReach}
 use Rattle.faults.proofs.Viewed.{has_each, has_below, none_below, place_is, places_apart, written_is, within, held_is}
+
+times_le : (b : Bool) (n : ℕ) → times b n ≤ n
+times_le true n = le_refl n
+times_le false n = zero-le
 
 module _ (v : View) where
   abbrev a : Accepted
@@ -51,9 +55,10 @@ module _ (v : View) where
       let z : k ≡ l = omega arith in
       (z, omega (arith, ap (writers_below tab s) z))
 
+  -- no task has more WI than instances
   few_numbers : writers_below tab s a.tasks.count ≤ most_instances
-  unfolding writers_below writes_in hyper
-  few_numbers = row_few a.tasks a.grid s 2 0 (fits_alone a.tasks a.signals a.grid a.fits a.grid)
+  unfolding writers_below
+  few_numbers = omega (arith, total_mono (λ k. times (tab.writes s k) (instances tab k)) (instances tab) a.tasks.count (λ k h. times_le (tab.writes s k) (instances tab k)), a.fits.few_instances)
 
   number_low : (k i : ℕ) → Has v Side.Writers k i → number k i < most_instances
   number_low k i H = omega (arith, before k i a.tasks.count H H.0, few_numbers)

@@ -13,7 +13,7 @@ use Rattle.rules.specs.Answers.{first_says}
 use Rattle.accept.specs.Accepts.{its_table}
 use Rattle.accept.specs.declared.Accepted.{Accepted}
 use Rattle.theory.proofs.Lists.{All, all_gather}
-use Rattle.form.specs.declared.sides.Side.{Side}
+use Rattle.rules.specs.declared.Side.{Side}
 use Rattle.form.specs.Records.{instance_parts}
 use Rattle.form.specs.Form.{walked}
 use Rattle.form.proofs.Walks.{walked_append, walked_first, walked_stays}

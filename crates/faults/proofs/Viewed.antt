@@ -9,9 +9,9 @@ use lib.ListN.{length, get_or}
 use Rattle.rules.specs.Words.{total, times}
 use Rattle.rules.specs.Windows.{Table, opens, closes, hyper, instances}
 use Rattle.rules.specs.Values.{Value, carried, by, signal_of, bound, closing, until, IsValue}
-use Rattle.rules.specs.Table.{longest, most_signals, Fits}
+use Rattle.rules.specs.Table.{longest}
 use Rattle.rules.specs.Schedule.{Schedule, element_of}
-use Rattle.rules.specs.Bytes.{Part, bf, wi, ri, writers_below, readers_below, size_of, start_of, schedule_length, schedule_in}
+use Rattle.rules.specs.Bytes.{writers_below, size_of, start_of, schedule_length, schedule_in}
 use Rattle.rules.specs.Reading.{task_of, writes_in, reads_in}
 use Rattle.theory.proofs.Tests.{is, holds}
 use Rattle.theory.proofs.Time.{closes_le}
@@ -21,14 +21,12 @@ use Rattle.signals.specs.declared.Publication.{Publication}
 use Rattle.signals.specs.Forms.{publication_of, binding_of, until_of}
 use Rattle.signals.proofs.Standing.{binding_is}
 use Rattle.signals.proofs.Lives.{until_is}
-use Rattle.events.proofs.Alone.{fits_alone}
-use Rattle.accept.specs.Accepts.{its_table}
 use Rattle.accept.specs.declared.Accepted.{Accepted}
-use Rattle.form.specs.declared.sides.Side.{Side}
-use Rattle.form.specs.Records.{Ready, permits, use_of}
-use Rattle.form.proofs.Steps.{all_times}
-use Rattle.form.proofs.Parted.{ready}
-use Rattle.sweep.specs.Pass.{grid_table, element_at, longest_bytes}
+use Rattle.rules.specs.declared.Side.{Side}
+use Rattle.form.specs.Records.{permits, use_of, users_of}
+use Rattle.form.proofs.Steps.{users_few}
+use Rattle.form.proofs.Parted.{by_periods}
+use Rattle.sweep.specs.Pass.{element_at, longest_bytes}
 use Rattle.sweep.proofs.Inspected.{total_within, writer_step, reader_step, writer_inside, reader_inside}
 use Rattle.faults.specs.declared.view.View.{View}
 use Rattle.faults.specs.declared.sharing.Held.{Held}
@@ -74,16 +72,6 @@ module _ (v : View) where
   abbrev s : ℕ
   s = v.signal
 
-  pub view_ready : Ready a.tasks a.signals.count a.hyper
-  view_ready = ready a.tasks a.signals a.grid a.hyper a.signals.count a.fits a.own refl
-
-  -- places do not depend on the signals' number
-  start_alone : (x : Part) → start_of (grid_table a.tasks a.grid) x ≡ start_of tab x
-  unfolding hyper writers_below readers_below size_of start_of
-  start_alone (bf r) = refl
-  start_alone (wi r k i) = refl
-  start_alone (ri r k i) = refl
-
   whole_signal : (total (size_of tab) (suc s) + 2 ≤ length v.schedule.now) × (total (size_of tab) (suc s) + 2 ≤ longest_bytes)
   unfolding schedule_length total
   whole_signal =
@@ -93,12 +81,12 @@ module _ (v : View) where
   -- the element of a record stands where the code looks for it
   pub place_is : (side : Side) (k i : ℕ) → Has v side k i → (first_of v.places side k + 7 * i ≡ start_of tab (use_of side s k i) + 6) × (start_of tab (use_of side s k i) + 6 < length v.schedule.now) × (start_of tab (use_of side s k i) + 6 ≤ longest_bytes)
   place_is Side.Writers k i (h, w, l) = (
-    omega (arith, v.placed.writers k h, start_alone (wi s k 0), writer_step tab s k i),
+    omega (arith, v.placed.writers k h, writer_step tab s k i),
     omega (arith, whole_signal.0, writer_inside tab s k i h w l),
     omega (arith, whole_signal.1, writer_inside tab s k i h w l),
   )
   place_is Side.Readers k i (h, w, l) = (
-    omega (arith, v.placed.readers k h, start_alone (ri s k 0), reader_step tab s k i),
+    omega (arith, v.placed.readers k h, reader_step tab s k i),
     omega (arith, whole_signal.0, reader_inside tab s k i h w l),
     omega (arith, whole_signal.1, reader_inside tab s k i h w l),
   )
@@ -106,7 +94,7 @@ module _ (v : View) where
   -- the writers' places tell how many records stand before theirs
   pub places_apart : (k : ℕ) → k < a.tasks.count → get_or v.places.writers k 0 ≡ get_or v.places.writers 0 0 + 7 * writers_below tab s k
   unfolding start_of
-  places_apart k h = omega (arith, v.placed.writers k h, start_alone (wi s k 0), v.placed.writers 0 (omega arith), start_alone (wi s 0 0), none_below tab s)
+  places_apart k h = omega (arith, v.placed.writers k h, v.placed.writers 0 (omega arith), none_below tab s)
 
   pub written_is : (k i : ℕ) → Has v Side.Writers k i → element_at v.schedule.now (get_or v.places.writers k 0) i ≡ E.writer s k i
   unfolding schedule_in
@@ -148,25 +136,14 @@ module _ (v : View) where
     pub bound_written : (p.task ≡ 255 → ⊥) → Has v Side.Writers p.task p.instance × (E.writer s p.task p.instance ≡ element_of E (bound tab s t))
     bound_written n = ⊎_elim (λ x. absurd (n x.0)) (λ x. x) bound_cases
 
-  pub records_are : (side : Side) (k : ℕ) → permits a.grid side s k ≡ true → a.hyper / (task_of a.tasks k).period ≡ records_in tab a.grid side s k
-  unfolding records_in
-  records_are side k e = ap (λ n. n / (task_of a.tasks k).period) a.own ∙ all_times _ _ e
+  pub records_few : (side : Side) (k : ℕ) → k < a.tasks.count → users_of v.users.now.grid.now v.users.now.instances side s k ≤ longest
+  records_few side k h = users_few v.users.now.grid.now v.users.now.instances side s k refl (v.users.now.short k (omega (arith, v.their.tasks)))
+
+  pub records_are : (side : Side) (k : ℕ) → k < a.tasks.count → users_of v.users.now.grid.now v.users.now.instances side s k ≡ records_in tab a.grid side s k
+  unfolding users_of records_in
+  records_are side k h = ap₂ (λ g n. times (permits g side s k) n) v.their.grid (v.their.instances k h ∙ ap (λ n. n / (task_of a.tasks k).period) a.own)
 
   -- the end of a life
   pub until_of_lem : (u : Value) → IsValue tab u → {r : ℕ} → r ≡ until_of a.tasks (writes_in a.grid (signal_of u)) (reads_in a.grid (signal_of u)) a.hyper (closing tab u) → r ≡ until tab u
   until_of_lem u x h =
       h ∙ ap (λ n. until_of a.tasks (writes_in a.grid (signal_of u)) (reads_in a.grid (signal_of u)) n (closing tab u)) a.own ∙ until_is a.tasks a.signals a.grid a.fits u x
-
--- ---- what the search of all signals starts from
-
-module _ (a : Accepted) (s : ℕ) (l : s < a.signals.count) where
-  pub places_asked : (start : ℕ) → start ≡ total (size_of (grid_table a.tasks a.grid)) s
-      → Fits (grid_table a.tasks a.grid) × (a.hyper ≡ hyper (grid_table a.tasks a.grid)) × (s < most_signals) × (start ≡ total (size_of (grid_table a.tasks a.grid)) s) × (start ≤ longest_bytes)
-  unfolding hyper writers_below readers_below size_of schedule_length
-  places_asked start e = (
-    fits_alone a.tasks a.signals a.grid a.fits a.grid,
-    a.own,
-    omega (arith, a.fits.few_signals),
-    e,
-    omega (arith, total_within (size_of (its_table a)) a.signals.count s l, length_is (its_table a), a.fits.few_signals, a.fits.few_uses),
-  )

@@ -11,7 +11,7 @@ use Rattle.rules.specs.Answers.{sent_wrong, sharing}
 use Rattle.rules.specs.Reading.{Grid, task_of, writes_in, reads_in}
 use Rattle.signals.specs.Forms.{until_of}
 use Rattle.accept.specs.Accepts.{its_table}
-use Rattle.form.specs.declared.sides.Side.{Side}
+use Rattle.rules.specs.declared.Side.{Side}
 use Rattle.form.specs.Records.{permits, use_of, instance_parts}
 use Rattle.form.specs.Form.{walked}
 use Rattle.sweep.specs.Pass.{element_at, Inside}

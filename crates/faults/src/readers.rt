@@ -5,12 +5,11 @@ ghost use Rattle.rules.specs.Values.{bound};
 ghost use Rattle.rules.specs.Schedule.{element_of};
 ghost use Rattle.rules.specs.Bytes.{ri};
 ghost use Rattle.rules.specs.Answers.{sent_wrong};
-ghost use Rattle.form.specs.declared.sides.Side.{Side};
+ghost use Rattle.rules.specs.declared.Side.{Side};
 ghost use Rattle.faults.specs.Faults.{view_table, view_schedule, Has};
 
 use crate::view::View;
 use rules::{CARRIED, CARRIED_ELEMENT};
-use signals::binding_at;
 use sweep::element_at;
 
 impl<'a> View<'a> {
@@ -19,7 +18,7 @@ impl<'a> View<'a> {
         requires { tick ≤ windows.hyper (view_table self.now) }
         ensures { result ≡ element_of (view_schedule self.now) (bound (view_table self.now) self.now.signal tick) }
     {
-        let value = binding_at(self.accepted.tasks, &self.accepted.grid, self.signal, tick);
+        let value = self.accepted.binding_at(self.signal, tick);
         let task = value.task;
         if task == CARRIED {
             return CARRIED_ELEMENT;

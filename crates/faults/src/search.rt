@@ -1,4 +1,6 @@
 // Record by record, signal after signal, until one is wrong.
+// Loops and no `find_map`: tried on first_wrong, where `returns` did not close: no lemma of std leads from FindsMapped to a walk such as first_in.
+// Between usize and u32 there is no From, and `try_from` would add a case that never comes: `as` keeps each number.
 ghost use Rattle.std.specs.Prelude.{◌≡◌, Bool, ℕ, ◌+◌, ◌*◌, ◌-◌, ◌≤◌, ◌<◌, length};
 ghost use Rattle.rules.specs.Table.{most_tasks};
 ghost use Rattle.rules.specs.Bytes.{Part, parts, schedule_length, schedule_in};
@@ -12,34 +14,29 @@ ghost use Rattle.faults.specs.Faults.{view_table, view_schedule, CanJudge, Judge
 use crate::untils::Untils;
 use crate::view::View;
 use accept::Accepted;
-use form::{Side, permitted};
-use rules::{ELEMENT_AT, USE_BYTES};
+use form::Users;
+use rules::{ELEMENT_AT, Side, USE_BYTES};
 use sweep::places_at;
 
 // Where the first wrong record starts: Side::Readers for 21, Side::Writers for 22.
+#[tactic(auto, using(form::proofs::Steps::total_none, form::proofs::Walks::walked_none, form::proofs::Walks::walked_turn, sweep::proofs::Placed::users_are, sweep::proofs::Whole::start_low, crate::proofs::Searched::nowhere))]
 pub fn first_fault(accepted: &Accepted, side: Side, schedule: &[u8]) -> Option<usize>
     requires { schedule_length (its_table accepted.now) ≤ length schedule.now }
     ensures { (n : ℕ) (rest : Told) → placed result n rest ≡ first_says (its_table accepted.now) (wrong_of (its_table accepted.now) (schedule_in (its_table accepted.now) schedule.now) side) n (parts (its_table accepted.now)) rest }
 {
-    let mut start: usize = 0;
+    let users = Users::new(accepted);
+    let mut next = 0;
     for signal in 0..accepted.signals.count {
-        let located = places_at(
-            accepted.tasks,
-            accepted.hyper,
-            &accepted.grid,
-            signal,
-            start,
-        );
         let view = View {
             accepted,
+            users: &users,
             schedule,
             signal,
-            places: located.places,
+            places: places_at(&users, signal, &mut next),
         };
         if let Some(at) = signal_fault(&view, side) {
             return Some(at);
         }
-        start = located.end;
     }
     None
 }
@@ -60,6 +57,7 @@ fn signal_fault(view: &View, side: Side) -> Option<usize>
 }
 
 // The first record of a signal for which the test holds, task by task.
+#[tactic(auto, using(form::proofs::Walks::walked_none, form::proofs::Walks::walked_turn, crate::proofs::Searched::nowhere), unfolding(crate::specs::Faults::side_of))]
 fn first_wrong<F: Fn(usize, u32) -> bool>(view: &View, side: Side, is_wrong: F) -> Option<usize>
     requires { CanJudge view.now side (F.pre is_wrong) }
     ensures { (wrong : Part → Bool) → Judges view.now side (F.post is_wrong) wrong → result ≡ first_in (view_table view.now) wrong (view_side view.now side view.now.accepted.now.tasks.count) }
@@ -73,6 +71,7 @@ fn first_wrong<F: Fn(usize, u32) -> bool>(view: &View, side: Side, is_wrong: F) 
 }
 
 // One task, instance by instance.
+#[tactic(auto, using(form::proofs::Walks::walked_none))]
 fn first_wrong_of<F: Fn(usize, u32) -> bool>(
     view: &View,
     side: Side,
@@ -105,14 +104,11 @@ impl<'a> View<'a> {
     }
 
     // How many records the task has for the signal on this side.
+    #[tactic(auto, using(crate::proofs::Viewed::records_are, crate::proofs::Viewed::records_few))]
     pub fn records(&self, side: Side, task: usize) -> u32
         requires { task < self.now.accepted.now.tasks.count }
         ensures { result ≡ view_records self.now side task }
     {
-        if permitted(&self.accepted.grid, task, self.signal, side) {
-            self.accepted.hyper / self.accepted.tasks.list[task].period
-        } else {
-            0
-        }
+        self.users.records(task, self.signal, side) as u32
     }
 }

@@ -1,13 +1,13 @@
 // 22: a value that has the element of an earlier one while both are live.
+// usize has no From of u32, and `try_from` would add a case that never comes: `as` keeps each number.
 ghost use Rattle.std.specs.Prelude.{◌≡◌, ℕ, ◌<◌};
 ghost use Rattle.rules.specs.Bytes.{wi};
 ghost use Rattle.rules.specs.Answers.{sharing};
-ghost use Rattle.form.specs.declared.sides.Side.{Side};
+ghost use Rattle.rules.specs.declared.Side.{Side};
 ghost use Rattle.faults.specs.Faults.{view_table, view_schedule, Has, InReach, held_at, carried_in, clashing, apart_from, apart_from_task, apart_from_earlier};
 
 use crate::untils::{CARRIED_AT, Untils, Writer};
-use form::Side;
-use rules::CARRIED_ELEMENT;
+use rules::{CARRIED_ELEMENT, Side};
 use sweep::element_at;
 
 // The element of a value, and its life.

@@ -1,14 +1,13 @@
 // Until when each value of a signal is live, worked out once and kept: by the number of its WI, and after them all the carried one.
+// usize has no From of u32, and `try_from` would add a case that never comes: `as` keeps each number.
 ghost use Rattle.std.specs.Prelude.{◌≡◌, suc, ◌≤◌, ◌<◌, get_or};
 ghost use Rattle.rules.specs.Values as values;
 ghost use Rattle.rules.specs.Table.{most_tasks, longest};
-ghost use Rattle.form.specs.declared.sides.Side.{Side};
+ghost use Rattle.rules.specs.declared.Side.{Side};
 ghost use Rattle.faults.specs.Faults.{view_table, Has, writer_of, ends_of, KeptTo, Kept};
 
 use crate::view::View;
-use form::Side;
-use rules::{MOST_INSTANCES, MOST_VALUES, USE_BYTES};
-use signals::until;
+use rules::{MOST_INSTANCES, MOST_VALUES, Side, USE_BYTES};
 
 // A signal has at most as many WI as all tasks have instances; the carried value stands after them.
 pub const CARRIED_AT: usize = MOST_INSTANCES as usize;
@@ -64,14 +63,7 @@ impl<'a> View<'a> {
         requires { published ≤ longest }
         ensures { result ≡ ends_of self.now published }
     {
-        let accepted = self.accepted;
-        until(
-            accepted.tasks,
-            &accepted.grid,
-            self.signal,
-            accepted.hyper,
-            published,
-        )
+        self.accepted.live_until(self.signal, published)
     }
 
     // Until when the value of a writer's instance is live.

@@ -1,4 +1,4 @@
--- The whole check of a schedule is its form, and then 21 and 22; and an accepted table is ready for the code.
+-- The whole check of a schedule is its form, and then 21 and 22; and a table's hyper-period is that of its tasks.
 use mathlib.Core.Path.{◌≡◌, refl, sym, ap, ◌∙◌}
 use mathlib.Core.Bool.{Bool, true, false}
 use mathlib.Core.List.{List, [], ◌∷◌}
@@ -7,17 +7,14 @@ use Prim.Native.Nat.{ℕ}
 use native.Mathlib.Omega.{arith}
 use lib.Dec.{ltb}
 use Rattle.rules.specs.Words.{when}
-use Rattle.rules.specs.Windows.{Table, hyper}
-use Rattle.rules.specs.Table.{Fits}
+use Rattle.rules.specs.Windows.{Table, lcm_all, hyper}
 use Rattle.rules.specs.Schedule.{room, base}
 use Rattle.rules.specs.Bytes.{Part, bf, wi, ri, parts, schedule_in}
 use Rattle.rules.specs.Numbers.{Told, tell, all_done, sum_above, wrong_reader, shared}
 use Rattle.rules.specs.Answers.{free_number, records_say, end_says, first_says, sent_wrong, sharing, whole_says, check_says}
-use Rattle.rules.specs.Reading.{Grid, table_of}
+use Rattle.rules.specs.Reading.{Grid, table_of, task_of}
 use Rattle.rules.specs.declared.Tasks.{Tasks}
 use Rattle.rules.specs.declared.Signals.{Signals}
-use Rattle.windows.proofs.Windows.{windowed_is}
-use Rattle.form.specs.Records.{Ready}
 use Rattle.form.specs.Form.{form_says}
 
 -- ---- a run of tests passes every answer on, or gives one refusal whatever comes after it
@@ -76,14 +73,9 @@ module _ (tab : Table) (bytes : List ℕ) where
   unfolding form_says check_says whole_says
   check_rest e = ⊎_elim (λ p. p _) (λ (t, m, p). absurd (m (ap (λ (t : Told). t.number) (sym (p (tell all_done 0))) ∙ e))) form_run
 
--- ---- an accepted table
+-- ---- the hyper-period of a table
 
-pub ready : (tasks : Tasks) (S : Signals) (grid : Grid) (h n : ℕ) → Fits (table_of tasks S grid) → h ≡ hyper (table_of tasks S grid) → S.count ≡ n → Ready tasks n h
+-- is the least common multiple of its tasks' periods, whatever its signals
+pub by_periods : (tasks : Tasks) (S : Signals) (grid : Grid) {h : ℕ} → h ≡ hyper (table_of tasks S grid) → h ≡ lcm_all (λ k. (task_of tasks k).period) tasks.count
 unfolding hyper
-ready tasks S grid h n F e q = (
-  F.few_tasks,
-  λ k l. windowed_is _ (F.window k l) (F.within k l) (F.short k l),
-  omega (arith, F.few_signals),
-  e,
-  omega (arith, F.hyper_short),
-)
+by_periods tasks S grid e = e

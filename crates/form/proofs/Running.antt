@@ -13,7 +13,7 @@ use Rattle.rules.specs.Words.{gather}
 use Rattle.rules.specs.Fields.{WI, RI, byte_at}
 use Rattle.rules.specs.Bytes.{Part, bf, wi, ri}
 use Rattle.rules.specs.Reading.{Grid}
-use Rattle.form.specs.declared.sides.Side.{Side}
+use Rattle.rules.specs.declared.Side.{Side}
 use Rattle.form.specs.declared.forms.Place.{Place}
 use Rattle.form.specs.Records.{use_of, users_of, side_parts, sides_parts, signal_parts, parts_in}
 use Rattle.form.specs.Form.{walked, step, signal_step, use_step}

@@ -20,7 +20,7 @@ use Rattle.rules.specs.Words.{total, times, when}
 use Rattle.rules.specs.Fields.{BF, byte_at, mark_at, holds_at}
 use Rattle.rules.specs.Table.{longest}
 use Rattle.rules.specs.Reading.{Grid}
-use Rattle.form.specs.declared.sides.Side.{Side}
+use Rattle.rules.specs.declared.Side.{Side}
 use Rattle.form.specs.declared.forms.Place.{Place}
 use Rattle.form.specs.Records.{mark_of, permits, use_of, users_of, users_below, instance_parts}
 use Rattle.form.specs.Form.{walked, step, bf_stands, use_stands, instance_stands, use_step}

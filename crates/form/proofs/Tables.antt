@@ -11,7 +11,7 @@ use Rattle.rules.specs.Bytes.{Part, bf, writers_below, readers_below, parts_of, 
 use Rattle.rules.specs.Reading.{Grid, task_of, table_of}
 use Rattle.rules.specs.declared.Tasks.{Tasks}
 use Rattle.rules.specs.declared.Signals.{Signals}
-use Rattle.form.specs.declared.sides.Side.{Side}
+use Rattle.rules.specs.declared.Side.{Side}
 use Rattle.form.specs.Records.{Instances, permits, users_of, users_below, signal_bytes, instance_parts, side_parts, sides_parts, signal_parts, parts_in}
 
 -- ---- sums and lists agree where their members do

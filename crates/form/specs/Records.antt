@@ -1,14 +1,12 @@
 -- The records of a schedule as the code walks them: by the grid, and by the number of instances of each task. Assumes nothing.
 use Rattle.std.specs.Prelude.{◌≡◌, Bool, List, [], ◌∷◌, ◌++◌, ℕ, ◌+◌, ◌*◌, ◌/◌, ◌≤◌, ◌<◌, get_or}
 use Rattle.rules.specs.Words.{total, gather, times}
-use Rattle.rules.specs.Windows.{lcm_all}
-use Rattle.rules.specs.Table.{most_tasks, most_signals, longest}
+use Rattle.rules.specs.Table.{most_tasks, longest}
 use Rattle.rules.specs.Fields.{WI, RI}
 use Rattle.rules.specs.Bytes.{Part, bf, wi, ri}
 use Rattle.rules.specs.Reading.{Grid, writes_in, reads_in, task_of}
 use Rattle.rules.specs.declared.Tasks.{Tasks}
-use Rattle.windows.specs.Windowed.{AllWindowed}
-use Rattle.form.specs.declared.sides.Side.{Side}
+use Rattle.rules.specs.declared.Side.{Side}
 
 -- ---- the two sides of a signal
 
@@ -25,10 +23,6 @@ use_of Side.Writers = wi
 use_of Side.Readers = ri
 
 -- ---- what the code has of an accepted table
-
--- windows fit, counts are in their bounds, and so is the hyper-period
-abbrev pub Ready : Tasks → ℕ → ℕ → Type 0
-Ready tasks signals h = (tasks.count ≤ most_tasks) × AllWindowed tasks × (signals ≤ most_signals) × (h ≡ lcm_all (λ k. (task_of tasks k).period) tasks.count) × (h ≤ longest)
 
 -- the number of instances of each task
 abbrev pub Instances : Tasks → ℕ → List ℕ → Type 0

@@ -1,19 +1,20 @@
-// The form of a schedule that was made elsewhere: every byte that the table fixes, every count and every element, in one pass.
+// The form of a schedule that was made elsewhere: every byte that the table fixes, every count and every element, in one pass. The writer in schedule walks
+// the same parts, with a step that cannot fail: one walk for both would take a closure that carries the lent buffer, and would be no plainer.
 ghost use Rattle.std.specs.Prelude.{◌≡◌, [], ◌∷◌, ◌<◌, ◌≤◌, ◌*◌, ◌+◌, length, Ok};
 ghost use Rattle.rules.specs.Table.{most_signals, most_elements};
 ghost use Rattle.rules.specs.Numbers.{told};
 ghost use Rattle.accept.specs.Accepts.{its_table};
-ghost use Rattle.form.specs.declared.sides.Side.{Side};
+ghost use Rattle.rules.specs.declared.Side.{Side};
 ghost use Rattle.form.specs.Records.{bf_bytes, use_bytes, mark_of, instance_parts, side_parts, signal_parts, parts_in};
 ghost use Rattle.form.specs.Form.{form_says, bf_stands, instance_stands, use_stands, signal_step, use_step, walked, step, end_step};
 
-use crate::sides::{Side, Use, mark_of};
+use crate::sides::{Use, mark_of};
 use crate::users::Users;
 use accept::Accepted;
 use fields::{holds, marked};
 use rules::{
     Answer, BF, BF_BYTES, COUNT_AT, ELEMENT_AT, EN, EN_BYTES, INSTANCE_AT, LOW_AT, MOST_ELEMENTS,
-    Refusal, SIGNAL_AT, TASK_AT, USE_BYTES, WORDS,
+    Refusal, SIGNAL_AT, Side, TASK_AT, USE_BYTES, WORDS,
 };
 
 // Where the next record starts, the count of the signal it belongs to, and the sum of the counts so far.

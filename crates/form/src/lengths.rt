@@ -1,4 +1,5 @@
-// The length of a schedule, which the table alone decides.
+// The length of a schedule, which the table alone decides. The two sums are loops: tried as `(0..n).map(..).sum()`, which leaves `sum-requires-clause-fits`
+// open, the bound of the sum, and then both clauses of the result.
 ghost use Rattle.std.specs.Prelude.{◌≡◌, ◌<◌, ◌≤◌, ◌*◌, ◌+◌};
 ghost use Rattle.rules.specs.Words.{total};
 ghost use Rattle.rules.specs.Table.{most_signals, longest};
@@ -6,10 +7,9 @@ ghost use Rattle.rules.specs.Bytes.{schedule_length};
 ghost use Rattle.accept.specs.Accepts.{its_table};
 ghost use Rattle.form.specs.Records.{longest_signal, users_below, signal_bytes};
 
-use crate::sides::Side;
 use crate::users::Users;
 use accept::Accepted;
-use rules::{BF_BYTES, EN_BYTES, USE_BYTES};
+use rules::{BF_BYTES, EN_BYTES, Side, USE_BYTES};
 
 // The bytes of a whole schedule.
 pub fn length(accepted: &Accepted) -> usize

@@ -8,5 +8,5 @@ mod users;
 
 pub use forms::form;
 pub use lengths::length;
-pub use sides::{Side, Use, mark_of, permitted};
+pub use sides::{Use, instances_of, mark_of, permitted};
 pub use users::Users;

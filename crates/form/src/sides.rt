@@ -1,16 +1,10 @@
 // The writer records and the reader records of a signal: they differ in their mark and in the right that a task needs.
-ghost use Rattle.std.specs.Prelude.{◌≡◌, ◌<◌, ◌≤◌};
+ghost use Rattle.std.specs.Prelude.{◌≡◌, ◌<◌};
 ghost use Rattle.rules.specs.Table.{most_tasks, most_signals};
-ghost use Rattle.windows.specs.Windowed.{AllWindowed};
 ghost use Rattle.form.specs.Records.{mark_of, permits, Instances};
 
-use rules::{MOST_SIGNALS, MOST_TASKS, RI, Tasks, WI};
-
-#[derive(Clone, Copy)]
-pub enum Side {
-    Writers,
-    Readers,
-}
+use rules::{MOST_SIGNALS, MOST_TASKS, RI, Side, WI};
+use windows::WindowedTasks;
 
 // One of those records: its mark, and the signal, the task and the instance that it is of.
 #[derive(Clone, Copy)]
@@ -46,14 +40,16 @@ pub fn permitted(
     }
 }
 
-// The instances of each task in a hyper-period, divided once here so that no walk over records divides.
-pub fn instances_of(tasks: Tasks, hyper: u32) -> [usize; MOST_TASKS]
-    requires { (tasks.count ≤ most_tasks) × AllWindowed tasks }
-    ensures { Instances tasks hyper result }
+// The instances of each task in a hyper-period, divided once here so that no walk over records divides. One index for both arrays: tried by `zip` of the
+// places and the tasks, whose items are not known to be the table's, so that the divisor's goal (`nonzero_div-n`) does not close. The cast to usize keeps
+// the number; std has no From for it, and `try_from` would add a case that never comes.
+#[tactic(auto, using(windows::proofs::Windows::period_pos))]
+pub fn instances_of(windowed: WindowedTasks, hyper: u32) -> [usize; MOST_TASKS]
+    ensures { Instances windowed.tasks hyper result }
 {
     let mut instances = [0usize; MOST_TASKS];
-    for k in 0..tasks.count {
-        instances[k] = (hyper / tasks.list[k].period) as usize;
+    for k in 0..windowed.tasks.count {
+        instances[k] = (hyper / windowed.tasks.list[k].period) as usize;
     }
     instances
 }

@@ -3,11 +3,11 @@ ghost use Rattle.std.specs.Prelude.{◌≡◌, ◌+◌, ◌*◌, ◌<◌, ◌≤
 ghost use Rattle.rules.specs.Table.{most_tasks, most_signals};
 ghost use Rattle.form.specs.Records.{Short, Instances, Starts, users_of, users_below};
 
-use crate::sides::{Side, instances_of, permitted};
+use crate::sides::{instances_of, permitted};
 use accept::Accepted;
-use rules::{MOST_SIGNALS, MOST_TASKS};
+use rules::{MOST_SIGNALS, MOST_TASKS, Side};
 
-// The grid, and the instances of each of so many tasks, of which none has more than a hyper-period has ticks.
+// The grid, and the instances of each of so many tasks, of which none has more than a hyper-period has ticks. A count beside the array: no heap.
 #[derive(Clone, Copy)]
 pub struct Users<'a> {
     pub grid: &'a [[u8; MOST_SIGNALS]; MOST_TASKS],
@@ -25,7 +25,7 @@ impl<'a> Users<'a> {
     {
         Users {
             grid: &accepted.grid,
-            instances: instances_of(accepted.tasks, accepted.hyper),
+            instances: instances_of(accepted.windowed(), accepted.hyper),
             tasks: accepted.tasks.count,
         }
     }

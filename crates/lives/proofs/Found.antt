@@ -8,15 +8,13 @@ use native.Mathlib.Numerals.{add-one}
 use native.Mathlib.Omega.{arith}
 use lib.ListN.{length, get_or, set, take, replicate, length-append, length-map}
 use Rattle.rules.specs.Words.{gather, only}
-use Rattle.rules.specs.Windows as windows
-use Rattle.rules.specs.Windows.{Table, opens, closes, instance}
+use Rattle.rules.specs.Windows.{Table, opens, closes}
 use Rattle.rules.specs.Values.{carried, by, Life, life}
-use Rattle.rules.specs.Table.{most_tasks, most_signals, most_values, most_elements, longest, Fits}
+use Rattle.rules.specs.Table.{most_values, most_elements, Fits}
 use Rattle.rules.specs.Plan.{Placed, line_of, lives_of}
-use Rattle.rules.specs.Reading.{Grid, table_of, task_of, writes_in, reads_in, no_grid}
+use Rattle.rules.specs.Reading.{Grid, writes_in, reads_in}
 use Rattle.rules.specs.declared.Tasks.{Tasks}
-use Rattle.rules.specs.declared.Signals.{Signals}
-use Rattle.theory.specs.Sweep.{task_in, tick_in, is_opening, events}
+use Rattle.theory.specs.Sweep.{task_in, is_opening, events}
 use Rattle.theory.specs.Untils.{first_free, hold, holding, fold, untils}
 use Rattle.theory.proofs.Tests.{both, holds, not_both}
 use Rattle.theory.proofs.Time.{instance_is, closes_le}
@@ -26,27 +24,21 @@ use Rattle.theory.proofs.Events.{IsEvent, events_all}
 use Rattle.theory.proofs.Order.{lives_length}
 use Rattle.theory.proofs.Untils.{plan_fold, count_fold}
 use Rattle.theory.proofs.Seats.{plan_most}
-use Rattle.windows.specs.Windowed.{AllWindowed}
 use Rattle.signals.specs.Forms.{until_of}
-use Rattle.signals.proofs.Standing.{fits_window}
 use Rattle.signals.proofs.Lives.{until_is}
 use Rattle.events.specs.Order.{tasks_table, ordered}
 use Rattle.events.specs.declared.Events.{Events}
 use Rattle.std.proofs.Math.Seq.{take-append_seam}
-use Rattle.events.proofs.Alone.{fits_alone, hyper_alone, events_alone}
+use Rattle.events.proofs.Alone.{events_alone}
 use Rattle.elements.specs.Steps.{free_in}
+use Rattle.accept.specs.Accepts.{its_table}
+use Rattle.accept.specs.declared.Accepted.{Accepted}
 use Rattle.lives.specs.declared.LiveValue.{LiveValue}
 use Rattle.lives.specs.Lives.{value_of, live_values}
-use Rattle.lives.specs.Values.{shown, blank, padded, writes_at, life_by, carried_by, Opening, Asked, lives_below, Held}
+use Rattle.lives.specs.Values.{shown, blank, padded, writes_at, life_by, carried_by, Opening, lives_below, Held}
 use Rattle.lives.proofs.Along.{gather_more, gather_same, opened_by, opened, opened_all}
 use Rattle.lives.proofs.Held.{untils_grow, length_fold, held_more}
 use Rattle.lives.proofs.Few.{few_values}
-
--- a record as the code makes it
-pub written_is : (tasks : Tasks) (grid : Grid) (s h n : ℕ) (held : List ℕ) {u e : ℕ} → u ≡ (life_by tasks grid s h n).until → e ≡ free_in held (tick_in n)
-    → (◌≡◌ {A = LiveValue} (record { task = task_in n; instance = tick_in n / (task_of tasks (task_in n)).period; from = tick_in n; until = u; element = e }) (shown (record { life = life_by tasks grid s h n; element = free_in held (tick_in n) })))
-    × (set held e u ≡ set held (free_in held (tick_in n)) (life_by tasks grid s h n).until)
-written_is tasks grid s h n held a b = rw (a, b) (refl, refl)
 
 map_gather : {A B : Type 0} (f : A → B) (g : ℕ → List A) (n : ℕ) → map f (gather n g) ≡ gather n (λ k. map f (g k))
 unfolding gather
@@ -62,32 +54,28 @@ map_lines [] = refl
 map_lines (p ∷ ps) = ap {B = List LiveValue} (λ l. shown p ∷ l) (map_lines ps)
 
 -- the places in use are the openings and closings
-pub turns_are : (tasks : Tasks) {turns : Events} → turns ≡ ordered (tasks_table tasks) → take turns.count turns.list ≡ events (tasks_table tasks)
-turns_are tasks e = ap (λ (t : Events). take t.count t.list) e ∙ take-append_seam (events (tasks_table tasks)) _
+pub turns_are : (tasks : Tasks) {turns : Events} → turns ≡ ordered (tasks_table tasks) → {list : List ℕ} → list ≡ take turns.count turns.list → list ≡ events (tasks_table tasks)
+turns_are tasks e n = n ∙ ap (λ (t : Events). take t.count t.list) e ∙ take-append_seam (events (tasks_table tasks)) _
 
-module _ (tasks : Tasks) (S : Signals) (grid : Grid) (h s : ℕ) (A : Asked tasks S grid h s) where
+-- an accepted table, and one of its signals
+module _ (a : Accepted) (s : ℕ) (known : s < a.signals.count) where
+  abbrev tasks : Tasks
+  tasks = a.tasks
+
+  abbrev grid : Grid
+  grid = a.grid
+
   abbrev tab : Table
-  tab = table_of tasks S grid
+  tab = its_table a
 
   abbrev F : Fits tab
-  F = A.fits
-
-  -- ---- what the code asks of its callees
-
-  pub ordering : Fits (tasks_table tasks) × (h ≡ windows.hyper (tasks_table tasks))
-  ordering = (fits_alone tasks S grid F no_grid, A.hyper ∙ hyper_alone tasks S grid)
-
-  pub signal_low : s < most_signals
-  signal_low = omega (arith, A.signal, F.few_signals)
-
-  pub carrying : (tasks.count ≤ most_tasks) × (s < most_signals) × AllWindowed tasks × (0 ≤ longest) × (h ≤ longest)
-  carrying = (F.few_tasks, signal_low, fits_window tab F, omega arith, omega (arith, A.hyper, F.hyper_short))
+  F = a.fits
 
   -- ---- one opening
 
   record Opened (n : ℕ) : Type 0 where
-    pub same : life_by tasks grid s h n ≡ life tab (opened_by tab F s n)
-    pub opening : Opening tasks s h n
+    pub same : life_by a s n ≡ life tab (opened_by tab F s n)
+    pub opening : Opening tasks s n
 
   one_opened : (n : ℕ) → IsEvent tab n → writes_at (writes_in grid s) n ≡ true → Opened n
   one_opened n (k, i, l, m, inl e) w =
@@ -97,15 +85,11 @@ module _ (tasks : Tasks) (S : Signals) (grid : Grid) (h s : ℕ) (A : Asked task
       let y = closes_le tab F k i l m in
       record {
         same = rw (e, d.1, d.2, j) (ap (λ (u : ℕ). record { value = by s k i; from = opens tab k i; until = u })
-            (ap (λ (h : ℕ). until_at h k i) A.hyper ∙ until_is tasks S grid F (by s k i) (A.signal, l, holds x, m)));
+            (ap (λ (h : ℕ). until_at h k i) a.own ∙ until_is tasks a.signals grid F (by s k i) (known, l, holds x, m)));
         opening = record {
-          count = F.few_tasks;
-          signal = signal_low;
-          windows = fits_window tab F;
-          hyper = omega (arith, A.hyper, F.hyper_short);
+          signal = omega (arith, known, F.few_signals);
           task = rw (e, d.1) l;
           tick = rw (e, d.2) (omega (arith, y, F.window k l, F.hyper_short));
-          period = rw (e, d.1) (omega (arith, F.window k l, F.within k l));
           closing = rw (e, d.1, d.2, j) (omega (arith, y, F.hyper_short));
         };
       }
@@ -119,7 +103,7 @@ module _ (tasks : Tasks) (S : Signals) (grid : Grid) (h s : ℕ) (A : Asked task
   -- ---- the openings and closings in their order
 
   same_events : events (tasks_table tasks) ≡ events tab
-  same_events = sym (events_alone tasks S grid)
+  same_events = sym (events_alone tasks a.signals grid)
 
   module _ (list : List ℕ) (q : list ≡ events (tasks_table tasks)) where
     listed : list ≡ events tab
@@ -129,18 +113,18 @@ module _ (tasks : Tasks) (S : Signals) (grid : Grid) (h s : ℕ) (A : Asked task
     is_event n l = rw listed (all_at (IsEvent tab) 0 (events tab) (events_all tab F) n (omega (arith, ap length listed)))
 
     abbrev pub lives : ℕ → List Life
-    lives n = lives_below tasks grid s h list n
+    lives n = lives_below a s list n
 
-    pub opens_one : (n : ℕ) → n < length list → writes_at (writes_in grid s) (get_or list n 0) ≡ true → Opening tasks s h (get_or list n 0)
+    pub opens_one : (n : ℕ) → n < length list → writes_at (writes_in grid s) (get_or list n 0) ≡ true → Opening tasks s (get_or list n 0)
     opens_one n l w = (one_opened (get_or list n 0) (is_event n l) w).opening
 
     -- at the end they are those of the signal's values in plan order
-    same_lives : (b : Bool) (n : ℕ) → (b ≡ true → life_by tasks grid s h n ≡ life tab (opened_by tab F s n)) → only b (life_by tasks grid s h n) ≡ map (life tab) (only b (opened_by tab F s n))
+    same_lives : (b : Bool) (n : ℕ) → (b ≡ true → life_by a s n ≡ life tab (opened_by tab F s n)) → only b (life_by a s n) ≡ map (life tab) (only b (opened_by tab F s n))
     same_lives true n f = ap (λ (l : Life). l ∷ []) (f refl)
     same_lives false n f = refl
 
-    carried_is : carried_by tasks grid s h ≡ life tab (carried s)
-    carried_is = ap (λ (u : ℕ). record { value = carried s; from = 0; until = u }) (ap (λ (h : ℕ). until_of tasks (writes_in grid s) (reads_in grid s) h 0) A.hyper ∙ until_is tasks S grid F (carried s) A.signal)
+    carried_is : carried_by a s ≡ life tab (carried s)
+    carried_is = ap (λ (u : ℕ). record { value = carried s; from = 0; until = u }) (ap (λ (h : ℕ). until_of tasks (writes_in grid s) (reads_in grid s) h 0) a.own ∙ until_is tasks a.signals grid F (carried s) known)
 
     pub lives_all : lives (length list) ≡ lives_of tab s
     unfolding lives_below
@@ -156,37 +140,37 @@ module _ (tasks : Tasks) (S : Signals) (grid : Grid) (h s : ℕ) (A : Asked task
     more : (n : ℕ) → n ≤ length list → (rest : List Life) × (lives_of tab s ≡ lives n ++ rest)
     unfolding lives_below
     more n l =
-        let (rest, e) = gather_more (λ i. only (writes_at (writes_in grid s) (get_or list i 0)) (life_by tasks grid s h (get_or list i 0))) n (length list) l in
-        (rest, sym lives_all ∙ ap {B = List Life} (λ ls. carried_by tasks grid s h ∷ ls) e)
+        let (rest, e) = gather_more (λ i. only (writes_at (writes_in grid s) (get_or list i 0)) (life_by a s (get_or list i 0))) n (length list) l in
+        (rest, sym lives_all ∙ ap {B = List Life} (λ ls. carried_by a s ∷ ls) e)
 
     few_lives : (n : ℕ) → n ≤ length list → length (lives n) ≤ most_values
     few_lives n l =
         let (rest, e) = more n l in
-        omega (arith, ap length e, length-append (lives n) rest, lives_length tab F s A.signal, few_values tab F s A.signal)
+        omega (arith, ap length e, length-append (lives n) rest, lives_length tab F s known, few_values tab F s known)
 
     few_held : (n : ℕ) → n ≤ length list → length (untils [] (lives n)) ≤ most_elements
     few_held n l =
         let (rest, e) = more n l in
-        omega (arith, untils_grow [] (lives n) rest, ap (λ (ls : List Life). length (untils [] ls)) e, count_fold tab F s A.signal, plan_most tab F s A.signal)
+        omega (arith, untils_grow [] (lives n) rest, ap (λ (ls : List Life). length (untils [] ls)) e, count_fold tab F s known, plan_most tab F s known)
 
     -- ---- the loop: its start, a turn with and without a value, its end
 
-    pub starts : {u : ℕ} → u ≡ (carried_by tasks grid s h).until
+    pub starts : {u : ℕ} → u ≡ (carried_by a s).until
         → Held (lives 0) (set (replicate most_elements 0) 0 u) (set (replicate most_values blank) 0 (record { task = 255; instance = 0; from = 0; until = u; element = 0 })) 1
     unfolding lives_below gather fold untils holding hold first_free
     starts e = rw e (record { number = refl; records = refl; ticks = refl })
 
-    lives_more : (n : ℕ) → writes_at (writes_in grid s) (get_or list n 0) ≡ true → lives (n + 1) ≡ lives n ++ life_by tasks grid s h (get_or list n 0) ∷ []
+    lives_more : (n : ℕ) → writes_at (writes_in grid s) (get_or list n 0) ≡ true → lives (n + 1) ≡ lives n ++ life_by a s (get_or list n 0) ∷ []
     unfolding lives_below gather
     lives_more n w = rw (add-one n, w)
 
     pub passes_by : (n : ℕ) → writes_at (writes_in grid s) (get_or list n 0) ≡ false → lives (n + 1) ≡ lives n
     unfolding lives_below gather
-    passes_by n w = rw (add-one n, w) (ap {B = List Life} (λ ls. carried_by tasks grid s h ∷ ls) (append-nil (gather n (λ i. only (writes_at (writes_in grid s) (get_or list i 0)) (life_by tasks grid s h (get_or list i 0))))))
+    passes_by n w = rw (add-one n, w) (ap {B = List Life} (λ ls. carried_by a s ∷ ls) (append-nil (gather n (λ i. only (writes_at (writes_in grid s) (get_or list i 0)) (life_by a s (get_or list i 0))))))
 
     module _ (n : ℕ) (l : n < length list) (w : writes_at (writes_in grid s) (get_or list n 0) ≡ true) (held : List ℕ) (values : List LiveValue) (count : ℕ) (K : Held (lives n) held values count) where
       abbrev one : Life
-      one = life_by tasks grid s h (get_or list n 0)
+      one = life_by a s (get_or list n 0)
 
       pub room : count < most_values
       room = omega (arith, K.number, few_lives (n + 1) (omega arith), ap length (lives_more n w), length-append (lives n) (one ∷ []))
@@ -200,7 +184,7 @@ module _ (tasks : Tasks) (S : Signals) (grid : Grid) (h s : ℕ) (A : Asked task
     -- the records are the live list
     shown_all : map shown (fold [] (lives_of tab s)) ≡ live_values tab s
     unfolding live_values
-    shown_all = map_lines (fold [] (lives_of tab s)) ∙ ap (λ (ps : List Placed). map value_of (map line_of ps)) (sym (plan_fold tab F s A.signal))
+    shown_all = map_lines (fold [] (lives_of tab s)) ∙ ap (λ (ps : List Placed). map value_of (map line_of ps)) (sym (plan_fold tab F s known))
 
     list_length : length (live_values tab s) ≡ length (lives_of tab s)
     list_length = ap length (sym shown_all) ∙ length-map (fold [] (lives_of tab s)) shown ∙ length_fold [] (lives_of tab s)

@@ -24,7 +24,7 @@ use Rattle.accept.proofs.Read.{is_refused}
 use Rattle.lives.specs.declared.LiveValue.{LiveValue}
 use Rattle.lives.specs.declared.Lives.{Lives}
 use Rattle.lives.specs.Lives.{value_of, live_values, live_told, live_front}
-use Rattle.lives.specs.Values.{blank, padded, Asked, filled, FilledWith}
+use Rattle.lives.specs.Values.{blank, padded, filled, FilledWith}
 
 -- the values in the array's first places are the list
 filled_is : (lives : Lives) (xs ys : List LiveValue) → lives.count ≡ length xs → lives.values ≡ padded xs → filled lives lives.count ys ≡ xs ++ drop (length xs) ys
@@ -39,10 +39,6 @@ refuses table s room x e ys = sym (past (eqb (live_told table s room).number all
 pub length_lives : (tab : Table) (s : ℕ) → length (live_values tab s) ≡ length (live_list tab s)
 unfolding live_values
 length_lives tab s = length-map (lines tab s) value_of ∙ length-map (live_list tab s) line_of
-
--- an accepted table and one of its signals
-pub asked : (a : Accepted) (s : ℕ) → s < a.signals.count → Asked a.tasks a.signals a.grid a.hyper s
-asked a s h = record { fits = a.fits; hyper = a.own; signal = h }
 
 -- the table is refused
 pub refused : (table : List ℕ) (s room : ℕ) (x : Refusal) → told (Err x) ≡ read_says table → told (Err x) ≡ live_told table s room

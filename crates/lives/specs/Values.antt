@@ -1,21 +1,18 @@
 -- The values of one signal as the code finds them: one after the other, each with its life and its element. Assumes nothing.
 use Rattle.std.specs.Prelude.{ℕ, ◌+◌, ◌*◌, ◌-◌, ◌/◌, ◌≤◌, ◌<◌, Bool, ◌&&◌, List, [], ◌∷◌, map, ◌++◌, ◌≡◌, length, get_or, take, drop, replicate, Result, Err, MatchResult}
 use Rattle.rules.specs.Words.{gather, only}
-use Rattle.rules.specs.Windows.{instance}
-use Rattle.rules.specs.Windows as windows
 use Rattle.rules.specs.Values.{carried, by, Life}
-use Rattle.rules.specs.Table.{most_tasks, most_signals, most_values, most_elements, longest, Fits}
+use Rattle.rules.specs.Table.{most_signals, most_values, most_elements, longest}
 use Rattle.rules.specs.Plan.{Placed, line_of}
-use Rattle.rules.specs.Reading.{Grid, table_of, task_of, writes_in, reads_in}
+use Rattle.rules.specs.Reading.{task_of, writes_in, reads_in}
 use Rattle.rules.specs.Numbers.{told, tell, all_done}
 use Rattle.rules.specs.declared.Refusal.{Refusal}
 use Rattle.rules.specs.declared.Task.{Task}
 use Rattle.rules.specs.declared.Tasks.{Tasks}
-use Rattle.rules.specs.declared.Signals.{Signals}
 use Rattle.theory.specs.Untils.{fold, untils}
 use Rattle.theory.specs.Sweep.{task_in, tick_in, is_opening}
-use Rattle.windows.specs.Windowed.{AllWindowed}
 use Rattle.signals.specs.Forms.{until_of}
+use Rattle.accept.specs.declared.Accepted.{Accepted}
 use Rattle.lives.specs.declared.LiveValue.{LiveValue}
 use Rattle.lives.specs.declared.Lives.{Lives}
 use Rattle.lives.specs.Lives.{value_of, live_told, live_front}
@@ -37,28 +34,18 @@ abbrev pub writes_at : (ℕ → Bool) → ℕ → Bool
 writes_at writes n = is_opening n && writes (task_in n)
 
 -- the life of the value written in that window, by the task's own numbers
-abbrev pub life_by : Tasks → Grid → ℕ → ℕ → ℕ → Life
-life_by tasks grid s h n =
-    let task : Task = task_of tasks (task_in n) in
+abbrev pub life_by : Accepted → ℕ → ℕ → Life
+life_by a s n =
+    let task : Task = task_of a.tasks (task_in n) in
     let i : ℕ = tick_in n / task.period in
-    record { value = by s (task_in n) i; from = tick_in n; until = until_of tasks (writes_in grid s) (reads_in grid s) h (i * task.period + task.end) }
+    record { value = by s (task_in n) i; from = tick_in n; until = until_of a.tasks (writes_in a.grid s) (reads_in a.grid s) a.hyper (i * task.period + task.end) }
 
 -- what the work on one such event asks
-pub record Opening (tasks : Tasks) (s h n : ℕ) : Type 0 where
-  pub count : tasks.count ≤ most_tasks
+pub record Opening (tasks : Tasks) (s n : ℕ) : Type 0 where
   pub signal : s < most_signals
-  pub windows : AllWindowed tasks
-  pub hyper : h ≤ longest
   pub task : task_in n < tasks.count
   pub tick : tick_in n ≤ longest
-  pub period : 0 < (task_of tasks (task_in n)).period
   pub closing : tick_in n / (task_of tasks (task_in n)).period * (task_of tasks (task_in n)).period + (task_of tasks (task_in n)).end ≤ longest
-
--- an accepted table, and one of its signals
-pub record Asked (tasks : Tasks) (signals : Signals) (grid : Grid) (h s : ℕ) : Type 0 where
-  pub fits : Fits (table_of tasks signals grid)
-  pub hyper : h ≡ windows.hyper (table_of tasks signals grid)
-  pub signal : s < signals.count
 
 -- the first n records are those of the values, and those beyond stay
 abbrev pub filled : Lives → ℕ → List LiveValue → List LiveValue
@@ -78,13 +65,12 @@ Fills table s room r = MatchResult r (FilledWith table s room) (λ e. told (Err 
 -- ---- what is known along the openings and closings of a hyper-period
 
 -- the life of the carried value
-abbrev pub carried_by : Tasks → Grid → ℕ → ℕ → Life
-carried_by tasks grid s h = record { value = carried s; from = 0; until = until_of tasks (writes_in grid s) (reads_in grid s) h 0 }
+abbrev pub carried_by : Accepted → ℕ → Life
+carried_by a s = record { value = carried s; from = 0; until = until_of a.tasks (writes_in a.grid s) (reads_in a.grid s) a.hyper 0 }
 
 -- the lives of the carried value and of those written in the windows that the first n events open
-unfoldable pub lives_below : Tasks → Grid → ℕ → ℕ → List ℕ → ℕ → List Life
-lives_below tasks grid s h events n =
-    carried_by tasks grid s h ∷ gather n (λ i. only (writes_at (writes_in grid s) (get_or events i 0)) (life_by tasks grid s h (get_or events i 0)))
+unfoldable pub lives_below : Accepted → ℕ → List ℕ → ℕ → List Life
+lives_below a s events n = carried_by a s ∷ gather n (λ i. only (writes_at (writes_in a.grid s) (get_or events i 0)) (life_by a s (get_or events i 0)))
 
 -- The arrays hold these lives: how many there are, their records, and the tick until which each element is held.
 pub record Held (ls : List Life) (held : List ℕ) (values : List LiveValue) (count : ℕ) : Type 0 where

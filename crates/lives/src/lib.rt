@@ -6,7 +6,7 @@ mod values;
 
 pub use list::{Lived, lent, live_list};
 
-// The task number of the carried value, as wide as the record's.
+// The task number of the carried value, as wide as the record's: u8 has no From of usize, and Rattle calls no `try_from` in a constant.
 pub const CARRIED: u8 = rules::CARRIED as u8;
 
 // A value of the signal: the instance that writes it, the ticks of its life, the last excluded, and its planned element.
@@ -20,7 +20,7 @@ pub struct LiveValue {
     pub element: u8,
 }
 
-// The values to fill in: the first `count` places are in use.
+// The values to fill in: the first `count` places are in use. An array, because the project has fixed memory and no heap.
 #[derive(Clone, Copy)]
 pub struct Lives {
     pub values: [LiveValue; rules::MOST_VALUES],

@@ -7,7 +7,7 @@ use crate::{LiveValue, Lives};
 use accept::accept;
 use rules::{Answer, MOST_LENT, Refusal};
 
-// An answer with the list that it filled.
+// An answer with the list that it filled. No Result: LentGives says the records on a refusal too, that they stayed.
 #[derive(Clone, Copy)]
 pub struct Lived {
     pub answer: Answer,

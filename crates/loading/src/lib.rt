@@ -1,26 +1,36 @@
 // The numbers and the store of a machine that is loaded: the tasks' windows, and signal by signal the accesses, the uses and the elements.
+// A narrowing `as` keeps its number: each is proved to. `try_from` would add a refusal that never comes.
 #![tactic(auto)]
 
-ghost use Rattle.std.specs.Prelude.{◌≡◌, ℕ, ◌+◌, ◌*◌, ◌<◌, ◌≤◌, length, get_or, replicate};
+ghost use Rattle.std.specs.Prelude.{◌≡◌, ℕ, ◌+◌, ◌*◌, ◌<◌, ◌≤◌, length, get_or};
 ghost use Rattle.rules.specs.Words.{times, up_to};
 ghost use Rattle.rules.specs.Table.{most_tasks, most_signals, most_uses, words};
-ghost use Rattle.state.specs.Kinds.{part_of, right_of};
-ghost use Rattle.loading.specs.Laid.{blank, counts_of, set_window, windows_laid, permits, uses_of, count_in, place_access, place_accesses, place_uses, fill_elements, signal_uses, signal_at, signal_laid, store_laid, Narrow, Windowed, SignalRoom, Room};
+ghost use Rattle.state.specs.Sides.{part_of, right_of};
+ghost use Rattle.loading.specs.Laid.{blank, set_window, windows_laid, permits, uses_of, count_in, place_access, place_accesses, place_uses, fill_elements, signal_uses, signal_at, signal_laid, store_laid, Narrow, Windowed, SignalRoom, Room};
 
-use rules::{
-    BF_BYTES, COUNT_AT, ELEMENT_AT, MOST_SIGNALS, MOST_TASKS, Task, Tasks, USE_BYTES, WORDS,
-};
+use form::Users;
+use rules::{BF_BYTES, COUNT_AT, ELEMENT_AT, MOST_SIGNALS, Side, Task, Tasks, USE_BYTES, WORDS};
 use state::{
-    CARRIED, COUNTS, ENDS, HYPER, Kind, LOADED, NONE, NUMBERS, PERIODS, READS, STARTS, USES,
+    CARRIED, COUNTS, ENDS, HYPER, LOADED, NONE, NUMBERS, PERIODS, READS, STARTS, USES, part, right,
 };
 
-// What the signals are loaded from: who may use which, how many instances each task has, the schedule's bytes, and how many tasks there are.
+// What a machine is loaded from: the tasks, who may use which signal and how often each task runs, the schedule's bytes, and each signal's default.
 #[derive(Clone, Copy)]
 pub struct Source<'a> {
-    pub grid: &'a [[u8; MOST_SIGNALS]; MOST_TASKS],
-    pub counts: &'a [u16; MOST_TASKS],
+    pub tasks: &'a Tasks,
+    pub users: &'a Users<'a>,
     pub schedule: &'a [u8],
-    pub tasks: usize,
+    pub defaults: &'a [u32; MOST_SIGNALS],
+    pub ghost narrow: { Windowed tasks.now },
+    pub ghost counted: { tasks.now.count ≤ users.now.tasks },
+}
+
+// The tasks' accesses on one side of a signal.
+#[derive(Clone, Copy)]
+pub struct Access {
+    pub side: Side,
+    pub signal: usize,
+    pub ghost few: { signal < most_signals },
 }
 
 // How many uses and elements stand before what is loaded next.
@@ -41,19 +51,6 @@ pub fn clear(numbers: &mut [u16; NUMBERS], hyper: u32)
     numbers[READS..USES].fill(NONE);
 }
 
-// How many instances each task has in a hyper-period.
-#[tactic(auto, using(state::proofs::Folds::acted), unfolding(crate::specs::Laid::counts_of))]
-pub fn count_instances(tasks: Tasks, hyper: u32) -> [u16; MOST_TASKS]
-    requires { Windowed tasks × (hyper < 65536) }
-    ensures { result ≡ counts_of tasks hyper }
-{
-    let mut counts = [0u16; MOST_TASKS];
-    for k in 0..tasks.count {
-        counts[k] = (hyper / tasks.list[k].period) as u16;
-    }
-    counts
-}
-
 #[tactic(auto, unfolding(crate::specs::Laid::set_window))]
 fn load_window(numbers: &mut [u16; NUMBERS], task: usize, window: Task, count: u16)
     requires { (task < most_tasks) × Narrow window }
@@ -65,62 +62,60 @@ fn load_window(numbers: &mut [u16; NUMBERS], task: usize, window: Task, count: u
     numbers[COUNTS + task] = count;
 }
 
-// Each task's window, with its instances.
+// Each task's window, with its instances. By an index and not by `zip`, since the index is also where they are put.
 #[tactic(auto, using(state::proofs::Folds::acted), unfolding(crate::specs::Laid::windows_laid))]
-pub fn load_windows(numbers: &mut [u16; NUMBERS], tasks: Tasks, counts: &[u16; MOST_TASKS])
-    requires { Windowed tasks }
-    ensures { numbers.new ≡ windows_laid tasks counts.now numbers.old }
+pub fn load_windows(numbers: &mut [u16; NUMBERS], source: Source)
+    ensures { numbers.new ≡ windows_laid source.entry.tasks.now source.entry.users.now.instances numbers.old }
 {
-    for k in 0..tasks.count {
-        load_window(numbers, k, tasks.list[k], counts[k]);
+    for k in 0..source.tasks.count {
+        let instances = source.users.instances[k];
+        load_window(numbers, k, source.tasks.list[k], instances as u16);
     }
 }
 
-// By the kind, and not by `signals::reads` and `signals::writes`: a match over both would be longer than this test.
-fn is_permitted(source: Source, kind: Kind, task: usize, signal: usize) -> bool
-    requires { (task < most_tasks) × (signal < most_signals) }
-    ensures { result ≡ permits source.entry.grid.now (right_of kind) task signal }
+// By the right's number, as `permits` of specs/Laid and the laws of a layout have it.
+fn is_permitted(source: Source, access: Access, task: usize) -> bool
+    requires { task < most_tasks }
+    ensures { result ≡ permits source.entry.users.now.grid.now (right_of access.side) task access.signal }
 {
-    source.grid[task][signal] / kind.right() % 2 == 1
+    source.users.grid[task][access.signal] / right(access.side) % 2 == 1
 }
 
 // One access: its uses begin here, one for each instance. Returns where the next ones begin.
 #[tactic(auto, unfolding(crate::specs::Laid::place_access))]
 fn place_access(
     numbers: &mut [u16; NUMBERS],
-    kind: Kind,
     source: Source,
-    signal: usize,
+    access: Access,
     used: usize,
     task: usize,
 ) -> usize
-    requires { (task < most_tasks) × (signal < most_signals) × (used ≤ most_uses) }
-    ensures { (numbers.new ≡ place_access (part_of kind) source.entry.grid.now (right_of kind) signal used task numbers.old)
-        × (result ≡ used + times (permits source.entry.grid.now (right_of kind) task signal) (get_or source.entry.counts.now task 0)) }
+    requires { (task < source.users.now.tasks) × (used ≤ most_uses) }
+    ensures { (numbers.new ≡ place_access (part_of access.side) source.entry.users.now.grid.now (right_of access.side) access.signal used task numbers.old)
+        × (result ≡ used + times (permits source.entry.users.now.grid.now (right_of access.side) task access.signal) (get_or source.entry.users.now.instances task 0)) }
 {
-    if !is_permitted(source, kind, task, signal) {
+    if !is_permitted(source, access, task) {
         return used;
     }
-    numbers[kind.part() + task * MOST_SIGNALS + signal] = used as u16;
-    used + usize::from(source.counts[task])
+    numbers[part(access.side) + task * MOST_SIGNALS + access.signal] = used as u16;
+    used + source.users.instances[task]
 }
 
-// All tasks' accesses of one kind to one signal.
+// All tasks' accesses on one side of a signal.
 #[tactic(auto, using(state::proofs::Folds::acted, crate::proofs::Sums::uses), unfolding(crate::specs::Laid::place_accesses))]
 fn place_accesses(
     numbers: &mut [u16; NUMBERS],
-    kind: Kind,
     source: Source,
-    signal: usize,
+    access: Access,
     first: usize,
 ) -> usize
-    requires { (source.tasks ≤ most_tasks) × (signal < most_signals) × (first + uses_of source.grid.now source.counts.now (right_of kind) signal source.tasks ≤ most_uses) }
-    ensures { (numbers.new ≡ place_accesses (part_of kind) source.entry.grid.now source.entry.counts.now (right_of kind) signal first source.entry.tasks numbers.old)
-        × (result ≡ first + uses_of source.entry.grid.now source.entry.counts.now (right_of kind) signal source.entry.tasks) }
+    requires { first + uses_of source.users.now.grid.now source.users.now.instances (right_of access.side) access.signal source.users.now.tasks ≤ most_uses }
+    ensures { (numbers.new ≡ place_accesses (part_of access.side) source.entry.users.now.grid.now source.entry.users.now.instances (right_of access.side) access.signal first source.entry.users.now.tasks numbers.old)
+        × (result ≡ first + uses_of source.entry.users.now.grid.now source.entry.users.now.instances (right_of access.side) access.signal source.entry.users.now.tasks) }
 {
     let mut used = first;
-    for k in 0..source.tasks {
-        used = place_access(numbers, kind, source, signal, used, k);
+    for k in 0..source.users.tasks {
+        used = place_access(numbers, source, access, used, k);
     }
     used
 }
@@ -156,23 +151,30 @@ fn load_signal(
     numbers: &mut [u16; NUMBERS],
     store: &mut [u32; WORDS],
     source: Source,
-    word: u32,
     before: Filled,
     signal: usize,
 ) -> Filled
-    requires { SignalRoom source.grid.now source.counts.now source.schedule.now source.tasks before.used before.base signal }
-    ensures { (numbers.new ≡ signal_at source.entry.grid.now source.entry.counts.now source.entry.schedule.now source.entry.tasks before.used before.base signal numbers.old)
-        × (store.new ≡ fill_elements before.base (count_in source.entry.schedule.now signal before.used) word store.old)
-        × (result.used ≡ before.used + signal_uses source.entry.grid.now source.entry.counts.now source.entry.tasks signal)
+    requires { SignalRoom source.users.now.grid.now source.users.now.instances source.schedule.now source.users.now.tasks before.used before.base signal }
+    ensures { (numbers.new ≡ signal_at source.entry.users.now.grid.now source.entry.users.now.instances source.entry.schedule.now source.entry.users.now.tasks before.used before.base signal numbers.old)
+        × (store.new ≡ fill_elements before.base (count_in source.entry.schedule.now signal before.used) (get_or source.entry.defaults.now signal 0) store.old)
+        × (result.used ≡ before.used + signal_uses source.entry.users.now.grid.now source.entry.users.now.instances source.entry.users.now.tasks signal)
         × (result.base ≡ before.base + count_in source.entry.schedule.now signal before.used) }
 {
     let count = usize::from(
         source.schedule[BF_BYTES * signal + USE_BYTES * before.used + COUNT_AT],
     );
-    fill_elements(store, before.base, count, word);
+    fill_elements(store, before.base, count, source.defaults[signal]);
     numbers[CARRIED + signal] = before.base as u16;
-    let read = place_accesses(numbers, Kind::Writes, source, signal, before.used);
-    let used = place_accesses(numbers, Kind::Reads, source, signal, read);
+    let writes = Access {
+        side: Side::Writers,
+        signal,
+    };
+    let reads = Access {
+        side: Side::Readers,
+        signal,
+    };
+    let written = place_accesses(numbers, source, writes, before.used);
+    let used = place_accesses(numbers, source, reads, written);
     place_uses(numbers, source.schedule, signal, before, used - before.used);
     let base = before.base + count;
     Filled { used, base }
@@ -180,19 +182,18 @@ fn load_signal(
 
 // All signals, one after the other.
 #[tactic(auto, using(state::proofs::Folds::acted, crate::proofs::Sums::before), unfolding(crate::specs::Laid::signal_laid, crate::specs::Laid::store_laid))]
-pub fn load_signals<'a>(
+pub fn load_signals(
     numbers: &mut [u16; NUMBERS],
     store: &mut [u32; WORDS],
-    source: Source<'a>,
-    defaults: &'a [u32; MOST_SIGNALS],
+    source: Source,
     signals: usize,
 )
-    requires { Room source.grid.now source.counts.now source.schedule.now source.tasks signals }
-    ensures { (numbers.new ≡ up_to signals (signal_laid source.entry.grid.now source.entry.counts.now source.entry.schedule.now source.entry.tasks) numbers.old)
-        × (store.new ≡ up_to signals (store_laid source.entry.grid.now source.entry.counts.now source.entry.schedule.now source.entry.tasks defaults.now) store.old) }
+    requires { Room source.users.now.grid.now source.users.now.instances source.schedule.now source.users.now.tasks signals }
+    ensures { (numbers.new ≡ up_to signals (signal_laid source.entry.users.now.grid.now source.entry.users.now.instances source.entry.schedule.now source.entry.users.now.tasks) numbers.old)
+        × (store.new ≡ up_to signals (store_laid source.entry.users.now.grid.now source.entry.users.now.instances source.entry.schedule.now source.entry.users.now.tasks source.entry.defaults.now) store.old) }
 {
     let mut next = Filled { used: 0, base: 0 };
     for s in 0..signals {
-        next = load_signal(numbers, store, source, defaults[s], next, s);
+        next = load_signal(numbers, store, source, next, s);
     }
 }

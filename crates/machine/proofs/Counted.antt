@@ -16,8 +16,9 @@ use Rattle.rules.specs.Reading.{cell_at, task_of, writes_in, reads_in}
 use Rattle.theory.proofs.Sums.{sizes, uses_all, length_is}
 use Rattle.state.proofs.Sets.{sets_at, sets_off, alike}
 use Rattle.state.specs.Rows.{openings, released}
-use Rattle.loading.specs.Laid.{blank, counts_of, windows_laid, permits, uses_of, count_in, element_in, used_before, base_before, signal_laid, store_laid, Narrow, Windowed, Room}
+use Rattle.loading.specs.Laid.{blank, counts_of, windows_laid, permits, uses_of, count_in, element_in, used_before, base_before, signal_laid, store_laid, Room}
 use Rattle.loading.proofs.Sums.{total_below}
+use Rattle.machine.proofs.Same.{windows_same, signals_same, stores_same, room_same}
 use Rattle.machine.specs.Calls.{keeping}
 use Rattle.machine.specs.Started.{Given, tab, made, counted, laid, filled, started, Checked}
 
@@ -47,6 +48,10 @@ module _ (g : Given) (C : Checked g) where
       sets_at (λ j. true) (λ j. j) (λ j. hyper / (task_of tasks j).period) tasks.count (replicate most_tasks 0) k (hyper / (task_of tasks k).period) (omega (arith, length-replicate {A = ℕ} most_tasks 0, C.fits.few_tasks))
       (λ j l t e. ap (λ i. hyper / (task_of tasks i).period) e) k h refl refl
       ∙ ap (λ x. x / (task_of tasks k).period) C.hyper_is
+
+  -- the same instances, from the table's own hyper-period
+  pub instances_as : (is : List ℕ) → ((k : ℕ) → k < tasks.count → get_or is k 0 ≡ hyper / (task_of tasks k).period) → (k : ℕ) → k < tasks.count → get_or is k 0 ≡ get_or cs k 0
+  instances_as is e k h = e k h ∙ ap (λ x. x / (task_of tasks k).period) C.hyper_is ∙ sym (count_of k h)
 
   pub count_none : (k : ℕ) → tasks.count ≤ k → get_or cs k 0 ≡ 0
   unfolding counts_of
@@ -94,21 +99,6 @@ module _ (g : Given) (C : Checked g) where
 
   -- ---- room
 
-  pub windowed : Windowed tasks
-  windowed = record { few_tasks = C.fits.few_tasks; narrow = narrow }
-    where
-      narrow : (k : ℕ) → k < tasks.count → Narrow (task_of tasks k)
-      narrow k h =
-          record {
-            positive = omega (arith, C.fits.window k h, C.fits.within k h);
-            period = omega (arith, C.fits.short k h);
-            start = omega (arith, C.fits.window k h, C.fits.within k h, C.fits.short k h);
-            end = omega (arith, C.fits.within k h, C.fits.short k h);
-          }
-
-  pub hyper_narrow : hyper < 65536
-  hyper_narrow = omega (arith, C.hyper_is, C.fits.hyper_short)
-
   pub room : Room grid cs schedule tasks.count signals.count
   room =
       record {
@@ -119,12 +109,24 @@ module _ (g : Given) (C : Checked g) where
         elements = omega (arith, base_is signals.count, C.in_all);
       }
 
--- the machine that is started, from what was laid one after the other
+  -- the same room, by such instances
+  pub room_by : (is : List ℕ) → ((k : ℕ) → k < tasks.count → get_or is k 0 ≡ get_or cs k 0) → Room grid is schedule tasks.count signals.count
+  room_by is e = room_same grid is cs tasks.count e schedule signals.count room
+
+-- the machine that is started, from what was laid one after the other by the instances of the table's tasks
 module _ (g : Given) where
-  pub started_is : (cs n₁ n₂ n₃ n₄ filling store : List ℕ) → cs ≡ counted g → n₁ ≡ blank g.hyper → n₂ ≡ windows_laid g.tasks cs n₁
+  pub started_is : (cs n₁ n₂ n₃ n₄ filling store : List ℕ) → ((k : ℕ) → k < g.tasks.count → get_or cs k 0 ≡ get_or (counted g) k 0) → n₁ ≡ blank g.hyper → n₂ ≡ windows_laid g.tasks cs n₁
       → (n₃ ≡ up_to g.signals.count (signal_laid g.grid cs g.schedule g.tasks.count) n₂)
       × (filling ≡ up_to g.signals.count (store_laid g.grid cs g.schedule g.tasks.count g.signals.defaults) (replicate words 0))
       → n₄ ≡ released n₃ → store ≡ openings n₄ g.signals.defaults filling
       → keeping n₄ g.signals.defaults store ≡ started g
   unfolding started laid filled
-  started_is cs n₁ n₂ n₃ n₄ filling store c b w (l, f) r o = rw (o, r, l, f, w, b, c)
+  started_is cs n₁ n₂ n₃ n₄ filling store c b w (l, f) r o =
+      rw (
+        o,
+        r,
+        l ∙ signals_same g.grid cs (counted g) g.tasks.count c g.schedule g.signals.count n₂,
+        f ∙ stores_same g.grid cs (counted g) g.tasks.count c g.schedule g.signals.defaults g.signals.count (replicate words 0),
+        w ∙ windows_same g.tasks cs (counted g) n₁ c,
+        b,
+      )

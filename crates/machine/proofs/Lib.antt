@@ -1,2 +1,3 @@
 pub mod Counted
 pub mod Load
+pub mod Same

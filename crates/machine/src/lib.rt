@@ -17,20 +17,21 @@ pub struct Machine {
     pub store: [u32; WORDS],
 }
 
+// The machine comes back on a refusal too, as it was (StepGives, WriteGives, Loads), so it stands beside the answer and not in it.
 #[derive(Clone, Copy)]
 pub struct Stepped {
     pub answer: Answer,
     pub machine: Machine,
 }
 
-// A refused read has word 0: the word is returned on a refusal too, so it stands beside the answer and not in it.
+// A refused read has word 0 (ReadGives, ListsReadGives): the word is returned on a refusal too, so it stands beside the answer and not in it.
 #[derive(Clone, Copy)]
 pub struct WordRead {
     pub answer: Answer,
     pub word: u32,
 }
 
-// A refusal has instance 0, as C is told.
+// A refusal has instance 0, as C is told (ListsOpenGives), so the instance too stands beside the answer.
 #[derive(Clone, Copy)]
 pub struct InstanceRead {
     pub answer: Answer,

@@ -1,15 +1,16 @@
 // Loading, a step, a read and a write over the machine's lists, lent where they lie: nothing of the machine is copied.
 ghost use Rattle.std.specs.Prelude.{◌≡◌};
-ghost use Rattle.state.specs.Kinds.{part_of};
+ghost use Rattle.state.specs.Sides.{part_of};
 ghost use Rattle.machine.specs.Calls.{keeping, position_in, instance_in};
 ghost use Rattle.machine.specs.Started.{given_of, started, Checked};
 ghost use Rattle.machine.specs.Gives.{ListsLoadGives, ListsStepGives, ListsReadGives, ListsWriteGives, ListsOpenGives};
 
 use crate::{InstanceRead, WordRead};
 use accept::{Accepted, accept};
+use form::Users;
 use loading::Source;
-use rules::{Answer, MOST_SIGNALS, MOST_TASKS, Refusal, WORDS};
-use state::{Kind, NUMBERS};
+use rules::{Answer, MOST_SIGNALS, MOST_TASKS, Refusal, Side, WORDS};
+use state::NUMBERS;
 use verdict::check_with;
 
 #[tactic(auto, unfolding(crate::specs::Calls::step_in, rules::specs::Words::when))]
@@ -33,16 +34,16 @@ pub fn step(
 #[tactic(auto, unfolding(rules::specs::Words::when))]
 fn position(
     numbers: &[u16; NUMBERS],
-    kind: Kind,
+    side: Side,
     task: usize,
     signal: usize,
 ) -> Result<u16, Refusal>
-    ensures { result ≡ position_in numbers.now (part_of kind) task signal }
+    ensures { result ≡ position_in numbers.now (part_of side) task signal }
 {
     if !state::is_fit(numbers) {
         return Err(Refusal::Unfit);
     }
-    state::locate(numbers, kind, task, signal)
+    state::locate(numbers, side, task, signal)
 }
 
 #[tactic(auto, unfolding(crate::specs::Calls::read_in))]
@@ -54,7 +55,7 @@ pub fn read<'a>(
 ) -> WordRead
     ensures { ListsReadGives numbers.now store.now task signal result }
 {
-    match position(numbers, Kind::Reads, task, signal) {
+    match position(numbers, Side::Readers, task, signal) {
         Ok(position) => WordRead {
             answer: Ok(0),
             word: state::load(store, position),
@@ -76,7 +77,7 @@ pub fn write(
 ) -> Answer
     ensures { ListsWriteGives numbers.now store.old task signal word result store.new }
 {
-    let position = position(numbers, Kind::Writes, task, signal)?;
+    let position = position(numbers, Side::Writers, task, signal)?;
     state::save(store, position, word);
     Ok(0)
 }
@@ -137,18 +138,18 @@ fn start<'a, 'b>(
     requires { Checked (given_of accepted.now schedule.now) }
     ensures { keeping numbers.new defaults.new store.new ≡ started (given_of accepted.now schedule.now) }
 {
-    let counts = loading::count_instances(accepted.tasks, accepted.hyper);
+    let users = Users::new(accepted);
     loading::clear(numbers, accepted.hyper);
-    loading::load_windows(numbers, accepted.tasks, &counts);
+    let source = Source {
+        tasks: &accepted.tasks,
+        users: &users,
+        schedule,
+        defaults: &accepted.signals.defaults,
+    };
+    loading::load_windows(numbers, source);
     *defaults = accepted.signals.defaults;
     *store = [0; WORDS];
-    let source = Source {
-        grid: &accepted.grid,
-        counts: &counts,
-        schedule,
-        tasks: accepted.tasks.count,
-    };
-    loading::load_signals(numbers, store, source, defaults, accepted.signals.count);
+    loading::load_signals(numbers, store, source, accepted.signals.count);
     state::release_all(numbers);
     state::open_all(numbers, defaults, store);
 }

@@ -17,7 +17,7 @@ use Rattle.rules.specs.Plan.{plan}
 use Rattle.rules.specs.Bytes.{Part, bf, wi, ri, fixed, free, writers_below, readers_below, parts, records_of, bytes_of, schedule_length}
 use Rattle.rules.specs.Numbers.{Told, tell}
 use Rattle.rules.specs.Answers.{plan_says}
-use Rattle.rules.specs.Reading.{Grid, table_of, no_grid}
+use Rattle.rules.specs.Reading.{Grid, table_of}
 use Rattle.rules.specs.declared.Tasks.{Tasks}
 use Rattle.rules.specs.declared.Signals.{Signals}
 use Rattle.theory.specs.Sweep.{events, acted}
@@ -26,11 +26,10 @@ use Rattle.theory.proofs.Tests.{split, past, here}
 use Rattle.theory.proofs.Lists.{All}
 use Rattle.theory.proofs.Checked.{Of, parts_of_lem}
 use Rattle.theory.proofs.Answered.{plan_says_lem}
-use Rattle.theory.proofs.Chosen.{first_upto, first_all, use_within, plan_chosen}
+use Rattle.theory.proofs.Chosen.{first_upto, use_within, plan_chosen}
 use Rattle.schedule.specs.Writing.{uses_before, number_of, schedule_of}
-use Rattle.events.proofs.Alone.{fits_alone, hyper_alone}
 use Rattle.elements.specs.Pass.{pass_table}
-use Rattle.plan.specs.Uses.{Planning, uses_planned, counts_planned}
+use Rattle.plan.specs.Uses.{uses_planned, counts_planned}
 use Rattle.plan.specs.Planning.{planned_into}
 use Rattle.form.proofs.Tables.{total_below}
 use Rattle.std.specs.List.{sum}
@@ -51,10 +50,6 @@ module _ (tasks : Tasks) (S : Signals) (grid : Grid) where
   tab = table_of tasks S grid
 
   -- the pass does not look at the number of signals
-  same_first : (s : ℕ) → first_use (pass_table tasks grid) s ≡ first_use tab s
-  unfolding first_use writers_below readers_below hyper
-  same_first s = refl
-
   same_chosen : (s : ℕ) (uses : List ℕ) → chosen (pass_table tasks grid) s uses ≡ chosen tab s uses
   unfolding chosen acted first_use writers_below readers_below hyper events
   same_chosen s uses = refl
@@ -140,15 +135,6 @@ module _ (tasks : Tasks) (S : Signals) (grid : Grid) where
     bytes_of_lem =
         ap₂ (λ (C U : List ℕ). bytes_of tab (schedule_of tab C U)) a b
         ∙ bytes_are F no_counts no_uses (length-replicate {A = ℕ} most_signals 0) (length-replicate {A = ℕ} most_uses 0) S.count refl
-
-  -- what planning asks of the table is there
-  pub planning : (h n : ℕ) → Fits tab → h ≡ hyper tab → S.count ≡ n → Planning tasks n grid h
-  planning h n F e q = record {
-    fits = fits_alone tasks S grid F no_grid;
-    few_signals = omega (arith, F.few_signals);
-    hyper = e ∙ hyper_alone tasks S grid;
-    room = omega (arith, same_first n, first_all tab F, ap (first_use tab) q);
-  }
 
 -- ---- the answers 13, 14 and 0, and what the buffer holds then
 

@@ -1,15 +1,10 @@
 -- The uses of a table numbered, and planned signal by signal. Assumes nothing.
-use Rattle.std.specs.Prelude.{ℕ, zero, suc, ◌+◌, ◌≤◌, ◌<◌, List, ◌≡◌, get_or, set}
-use Rattle.rules.specs.Windows as windows
+use Rattle.std.specs.Prelude.{ℕ, zero, suc, ◌+◌, ◌<◌, List, ◌≡◌, get_or, set}
 use Rattle.rules.specs.Windows.{Table}
-use Rattle.rules.specs.Table.{most_signals, most_uses, Fits}
 use Rattle.rules.specs.Reading.{Grid}
-use Rattle.rules.specs.declared.Tasks.{Tasks}
-use Rattle.theory.specs.Chosen.{first_use, chosen}
-use Rattle.events.specs.Order.{tasks_table}
-use Rattle.form.specs.declared.sides.Side.{Side}
+use Rattle.theory.specs.Chosen.{chosen}
+use Rattle.rules.specs.declared.Side.{Side}
 use Rattle.form.specs.Records.{users_below}
-use Rattle.elements.specs.Pass.{pass_table}
 use Rattle.elements.specs.declared.pass.Numbers.{Numbers}
 
 module _ (grid : Grid) (instances : List ℕ) where
@@ -21,13 +16,6 @@ module _ (grid : Grid) (instances : List ℕ) where
   pub record Numbered (s first tasks : ℕ) (numbers : Numbers) : Type 0 where
     pub writers : (k : ℕ) → k < tasks → get_or numbers.writers k 0 ≡ first + users_below grid instances Side.Writers s k
     pub readers : (k : ℕ) → k < tasks → get_or numbers.readers k 0 ≡ first + users_below grid instances Side.Writers s tasks + users_below grid instances Side.Readers s k
-
--- what planning asks of a table
-pub record Planning (tasks : Tasks) (signals : ℕ) (grid : Grid) (h : ℕ) : Type 0 where
-  pub fits : Fits (tasks_table tasks)
-  pub few_signals : signals ≤ most_signals
-  pub hyper : h ≡ windows.hyper (tasks_table tasks)
-  pub room : first_use (pass_table tasks grid) signals ≤ most_uses
 
 -- the elements of the uses, and the counts, once the signals below n are planned
 unfoldable pub uses_planned : Table → List ℕ → ℕ → List ℕ

@@ -1,4 +1,4 @@
-// The elements of all uses of an accepted table, in the order of their records.
+// The elements of all uses of an accepted table, in the order of their records. A count is proved to fit its byte; try_from would add a refusal that never comes.
 ghost use Rattle.std.specs.Prelude.{◌≡◌, ◌+◌, ◌<◌, ◌≤◌};
 ghost use Rattle.rules.specs.Table.{most_signals, most_uses};
 ghost use Rattle.elements.specs.Pass.{pass_table};
@@ -7,8 +7,8 @@ ghost use Rattle.plan.specs.Uses.{Numbered, users_in, uses_planned, counts_plann
 use accept::Accepted;
 use elements::{Numbers, plan_signal};
 use events::order_events;
-use form::{Side, Users};
-use rules::{MOST_SIGNALS, MOST_USES};
+use form::Users;
+use rules::{MOST_SIGNALS, MOST_USES, Side};
 
 // The numbers of each task's first uses of the signal: writers first, then readers, as their records stand. `next` moves on past them all.
 fn number_uses(users: &Users, signal: usize, next: &mut usize) -> Numbers
@@ -27,11 +27,11 @@ pub fn plan_uses(accepted: &Accepted, counts: &mut [u8; MOST_SIGNALS], uses: &mu
     ensures { (counts.new ≡ counts_planned (pass_table accepted.now.tasks accepted.now.grid) counts.old uses.old accepted.now.signals.count) × (uses.new ≡ uses_planned (pass_table accepted.now.tasks accepted.now.grid) uses.old accepted.now.signals.count) }
 {
     let ordered = order_events(accepted.tasks, accepted.hyper);
-    let events = &ordered.list[..ordered.count];
+    let events = ordered.numbers();
     let users = Users::new(accepted);
     let mut next = 0;
     for s in 0..accepted.signals.count {
         let numbers = number_uses(&users, s, &mut next);
-        counts[s] = plan_signal(accepted.tasks, &accepted.grid, s, events, numbers, uses) as u8;
+        counts[s] = plan_signal(accepted, s, events, numbers, uses) as u8;
     }
 }

@@ -1,4 +1,4 @@
-// One line for each command.
+// One line for each command. usize has no From of u64; it is as wide here, so that `as` keeps each number.
 use crate::bench::{Bench, LONGEST};
 use crate::tell::bad_line;
 use console::command::{Command, asked, is_quiet};

@@ -12,7 +12,7 @@ pub const LINE_FEED: u8 = b'\n';
 
 const BAD_LINE: &[u8] = b"bad line\n";
 
-// Number and place.
+// Number and place. u64 has no From of usize, as wide as it is; `try_from` would add a case that never comes.
 pub(crate) fn put_answer(page: &mut Page, answer: Answer)
     ensures { Puts (number_and_place (told answer)) page.old page.new }
 {

@@ -12,7 +12,7 @@ use Rattle.rules.specs.Words.{total}
 use Rattle.rules.specs.Fields.{WI, RI}
 use Rattle.rules.specs.Bytes.{bf}
 use Rattle.rules.specs.Reading.{Grid}
-use Rattle.form.specs.declared.sides.Side.{Side}
+use Rattle.rules.specs.declared.Side.{Side}
 use Rattle.form.specs.Records.{mark_of, use_of, users_of, users_below, instance_parts}
 use Rattle.form.specs.Form.{walked}
 use Rattle.form.proofs.Steps.{total_more, total_grows}

@@ -10,7 +10,7 @@ use Rattle.rules.specs.Bytes.{Part, bf, wi, ri, writers_below, readers_below, sc
 use Rattle.rules.specs.Reading.{Grid, table_of}
 use Rattle.rules.specs.declared.Tasks.{Tasks}
 use Rattle.rules.specs.declared.Signals.{Signals}
-use Rattle.form.specs.declared.sides.Side.{Side}
+use Rattle.rules.specs.declared.Side.{Side}
 use Rattle.form.specs.Records.{bf_bytes, use_bytes, users_below}
 
 module _ (tab : Table) where

@@ -1,4 +1,5 @@
-// A schedule written from its counts and elements, record by record at the front of a lent buffer.
+// A schedule written from its counts and elements, record by record at the front of a lent buffer. Numbers are proved to fit their bytes; try_from would add a
+// refusal that never comes.
 #![tactic(auto)]
 
 ghost use Rattle.std.specs.Prelude.{◌≡◌, List, ◌++◌, ℕ, ◌<◌, ◌≤◌, ◌*◌, ◌+◌, length, get_or, drop};
@@ -6,14 +7,14 @@ ghost use Rattle.std.proofs.lemmas.List.Edits.{sets};
 ghost use Rattle.rules.specs.Table.{most_tasks, most_signals, most_uses, longest};
 ghost use Rattle.rules.specs.Bytes.{bytes_of, schedule_length};
 ghost use Rattle.accept.specs.Accepts.{its_table};
-ghost use Rattle.form.specs.declared.sides.Side as sides;
+ghost use Rattle.rules.specs.declared.Side as sides;
 ghost use Rattle.form.specs.Records.{bf_bytes, use_bytes, mark_of, users_below, instance_parts, side_parts, signal_parts, parts_in};
 ghost use Rattle.form.specs.Form.{walked};
 ghost use Rattle.schedule.specs.Writing.{schedule_of, bf_put, use_put, put, uses_of, uses_below};
 
 use accept::Accepted;
-use form::{Side, Use, Users, mark_of};
-use rules::{BF, BF_BYTES, EN, MOST_SIGNALS, MOST_USES, USE_BYTES};
+use form::{Use, Users, mark_of};
+use rules::{BF, BF_BYTES, EN, MOST_SIGNALS, MOST_USES, Side, USE_BYTES};
 
 // The schedule with these counts, whose WI and RI records have the elements `uses` in the order in which they stand; bytes after it stay.
 pub fn write(

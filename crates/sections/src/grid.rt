@@ -1,4 +1,4 @@
-// The grid of the accesses, 16 rows of tasks by 32 columns of signals: 0 none, 1 read, 2 write, 3 both.
+// The grid of the accesses, 16 rows of tasks by 32 columns of signals: 0 none, 1 read, 2 write, 3 both. Numbers, since `GridGives` has them so.
 ghost use Rattle.sections.specs.Gives.{GridGives};
 
 use crate::kinds::{AccessRecords, no_accesses};

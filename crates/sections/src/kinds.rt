@@ -1,4 +1,5 @@
-// The kinds of record of a table: what is asked for, and how it is put to those before it.
+// The kinds of record of a table: what is asked for, and how it is put to those before it. Tasks and signals are kept in the same way, but in two types:
+// `TableGives` names both.
 ghost use Rattle.std.specs.Prelude.{◌≡◌};
 ghost use Rattle.rules.specs.Records.{task_at, signal_at, access_at};
 ghost use Rattle.rules.specs.Reading.{no_accesses, put_task, put_signal, put_access};

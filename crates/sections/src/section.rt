@@ -9,7 +9,7 @@ ghost use Rattle.sections.specs.Said.{section_said};
 use records::{Cursor, Step};
 use rules::Refusal;
 
-// What was read, also before a refusal, and how the section ends.
+// What was read, and how the section ends. A value beside a Result, since what was read comes back with a refusal too: `tasks_in` and its like say both.
 #[derive(Clone, Copy)]
 pub struct SectionRead<T> {
     pub read: T,
@@ -62,7 +62,8 @@ pub(crate) fn read_after<K: Kind>(
     }
 }
 
-// All records of a kind from a place on. One too many is refused, so that one question more than fits is enough.
+// All records of a kind from a place on. One too many is refused, so that one question more than fits is enough. It is a loop without `?`, since a refusal
+// gives what was read too.
 #[tactic(auto, unfolding(rules::specs::Reading::section))]
 fn read_section<K: Kind>(
     kind: &K,
@@ -75,7 +76,7 @@ fn read_section<K: Kind>(
 {
     let mut read = none;
     let mut place = from;
-    let end = 'records: loop {
+    let end = loop {
         match kind.ask(bytes, &read, place) {
             Ok(Some((given, next))) => {
                 kind.keep(&mut read, given);

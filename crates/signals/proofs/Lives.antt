@@ -21,11 +21,11 @@ use Rattle.theory.proofs.Time.{closes_le}
 use Rattle.theory.proofs.Joins as joins
 use Rattle.windows.specs.Windowed.{AllWindowed}
 use Rattle.windows.specs.Forms.{next_closing, last_opened, task_in, IsLastOpened}
-use Rattle.windows.proofs.Windows.{branch, last_opened_lem, next_closing_lem}
+use Rattle.windows.proofs.Windows.{branch, fits_window, last_opened_lem, next_closing_lem}
 use Rattle.signals.specs.Pass.{pass}
 use Rattle.signals.specs.Forms.{next_of, reach_if, reach_of, reach_below, until_of}
 use Rattle.signals.proofs.Passes.{pass_none, pass_chosen, pass_other, pass_law, below_suc}
-use Rattle.signals.proofs.Standing.{Windows, fits_window, closes_in_order}
+use Rattle.signals.proofs.Standing.{Windows, closes_in_order}
 
 -- ---- the next publication
 

@@ -18,7 +18,7 @@ use Rattle.theory.proofs.Tests.{holds, is, not_both}
 use Rattle.theory.proofs.Joins.{bound_is, bound_first}
 use Rattle.windows.specs.Windowed.{Windowed}
 use Rattle.windows.specs.Forms.{last_closed, task_in, IsLastClosed}
-use Rattle.windows.proofs.Windows.{branch, windowed_is, last_closed_lem}
+use Rattle.windows.proofs.Windows.{branch, fits_window, last_closed_lem}
 use Rattle.signals.specs.declared.Publication.{Publication}
 use Rattle.signals.specs.Pass.{pass}
 use Rattle.signals.specs.Forms.{publication_of, nothing_yet, later_if, later_of, binding_of}
@@ -27,9 +27,6 @@ use Rattle.signals.proofs.Passes.{pass_law, below_suc}
 -- each task of the table has its window inside its period
 abbrev pub Windows : Table → Type 0
 Windows tab = (k : ℕ) → k < tab.tasks → Windowed (task_in tab k)
-
-pub fits_window : (tab : Table) → Fits tab → Windows tab
-fits_window tab F k h = windowed_is (task_in tab k) (F.window k h) (F.within k h) (F.short k h)
 
 -- instances close in their order
 pub closes_in_order : (tab : Table) (k i j : ℕ) → i ≤ j → closes tab k i ≤ closes tab k j

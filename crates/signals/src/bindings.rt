@@ -1,13 +1,14 @@
 // The value of a signal that stands at a tick.
-ghost use Rattle.std.specs.Prelude.{◌≡◌, ◌<◌, ◌≤◌};
-ghost use Rattle.rules.specs.Table.{most_tasks, most_signals};
+ghost use Rattle.std.specs.Prelude.{◌≡◌, ◌<◌};
+ghost use Rattle.rules.specs.Table.{most_signals};
 ghost use Rattle.rules.specs.Reading.{writes_in};
-ghost use Rattle.windows.specs.Windowed.{Windowed, AllWindowed};
+ghost use Rattle.windows.specs.Windowed.{Windowed};
 ghost use Rattle.signals.specs.Forms.{later_of, binding_of};
 
 use crate::Publication;
 use crate::rights::writes;
-use rules::{CARRIED, MOST_SIGNALS, MOST_TASKS, Task, Tasks};
+use rules::{CARRIED, MOST_SIGNALS, MOST_TASKS, Task};
+use windows::WindowedTasks;
 
 // The later of what was found so far and the last publication of task number k at or before a tick.
 #[tactic(auto, using(crate::proofs::Steps::laters))]
@@ -32,22 +33,22 @@ pub fn later(task: Task, k: usize, tick: u32, found: Publication) -> Publication
 // The value that a reader opening at the tick is bound to: the latest published at or before it, else the carried one.
 #[tactic(auto, using(crate::proofs::Passes::passes), unfolding(crate::specs::Forms::binding_of))]
 pub fn binding_at(
-    tasks: Tasks,
+    windowed: WindowedTasks,
     grid: &[[u8; MOST_SIGNALS]; MOST_TASKS],
     signal: usize,
     tick: u32,
 ) -> Publication
-    requires { (tasks.count ≤ most_tasks) × (signal < most_signals) × AllWindowed tasks }
-    ensures { result ≡ binding_of tasks (writes_in grid.now signal) tick }
+    requires { signal < most_signals }
+    ensures { result ≡ binding_of windowed.tasks (writes_in grid.now signal) tick }
 {
     let mut found = Publication {
         tick: 0,
         task: CARRIED,
         instance: 0,
     };
-    for k in 0..tasks.count {
+    for k in 0..windowed.tasks.count {
         if writes(grid, k, signal) {
-            found = later(tasks.list[k], k, tick, found);
+            found = later(windowed.tasks.list[k], k, tick, found);
         }
     }
     found

@@ -9,7 +9,8 @@ pub use bindings::binding_at;
 pub use rights::{reads, writes};
 pub use untils::{next_publication, until};
 
-// When a value was published, and by which instance of which task. The carried one stands from tick 0 on.
+// When a value was published, and by which instance of which task. The carried one stands from tick 0 on, under document 01's task number CARRIED: `binding_of`
+// gives that number, by `nothing_yet` in specs/Forms.
 #[derive(Clone, Copy)]
 pub struct Publication {
     pub tick: u32,

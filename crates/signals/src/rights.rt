@@ -1,4 +1,5 @@
-// Who writes and who reads a signal, by the grid: 1 for reading and 2 for writing, 3 for both.
+// Who writes and who reads a signal, by the grid: 1 for reading and 2 for writing, 3 for both. Two functions of one expression each, as `writes_in` and
+// `reads_in` are two definitions; by the side they are one in `form::permitted`.
 ghost use Rattle.std.specs.Prelude.{◌≡◌, ◌<◌};
 ghost use Rattle.rules.specs.Table.{most_tasks, most_signals};
 ghost use Rattle.rules.specs.Reading.{writes_in, reads_in};

@@ -1,29 +1,30 @@
 // The next publication of a signal, and until when a value of it is live.
 ghost use Rattle.std.specs.Prelude.{◌≡◌, ◌<◌, ◌≤◌};
-ghost use Rattle.rules.specs.Table.{most_tasks, most_signals, longest};
+ghost use Rattle.rules.specs.Table.{most_signals, longest};
 ghost use Rattle.rules.specs.Reading.{writes_in, reads_in};
-ghost use Rattle.windows.specs.Windowed.{Windowed, AllWindowed};
+ghost use Rattle.windows.specs.Windowed.{Windowed};
 ghost use Rattle.signals.specs.Forms.{next_of, reach_of, until_of};
 
 use crate::rights::{reads, writes};
-use rules::{MOST_SIGNALS, MOST_TASKS, Task, Tasks};
+use rules::{MOST_SIGNALS, MOST_TASKS, Task};
+use windows::WindowedTasks;
 
 // The first publication after a tick, or the hyper-period where there is none.
 #[tactic(auto, using(crate::proofs::Passes::passes), unfolding(crate::specs::Forms::next_of))]
 pub fn next_publication(
-    tasks: Tasks,
+    windowed: WindowedTasks,
     grid: &[[u8; MOST_SIGNALS]; MOST_TASKS],
     signal: usize,
     hyper: u32,
     tick: u32,
 ) -> u32
-    requires { (tasks.count ≤ most_tasks) × (signal < most_signals) × AllWindowed tasks × (tick ≤ longest) }
-    ensures { result ≡ next_of tasks (writes_in grid.now signal) hyper tick }
+    requires { (signal < most_signals) × (tick ≤ longest) }
+    ensures { result ≡ next_of windowed.tasks (writes_in grid.now signal) hyper tick }
 {
     let mut next = hyper;
-    for k in 0..tasks.count {
+    for k in 0..windowed.tasks.count {
         if writes(grid, k, signal) {
-            next = windows::next_closing(tasks.list[k], tick, next);
+            next = windows::next_closing(windowed.tasks.list[k], tick, next);
         }
     }
     next
@@ -48,20 +49,20 @@ pub fn reach(task: Task, from: u32, before: u32, reached: u32) -> u32
 // Until when the value that was published at a tick, 0 for the carried one, is live: the next publication, or the last closing of a reader bound to it.
 #[tactic(auto, using(crate::proofs::Lives::lives))]
 pub fn until(
-    tasks: Tasks,
+    windowed: WindowedTasks,
     grid: &[[u8; MOST_SIGNALS]; MOST_TASKS],
     signal: usize,
     hyper: u32,
     published: u32,
 ) -> u32
-    requires { (tasks.count ≤ most_tasks) × (signal < most_signals) × AllWindowed tasks × (published ≤ longest) × (hyper ≤ longest) }
-    ensures { result ≡ until_of tasks (writes_in grid.now signal) (reads_in grid.now signal) hyper published }
+    requires { (signal < most_signals) × (published ≤ longest) × (hyper ≤ longest) }
+    ensures { result ≡ until_of windowed.tasks (writes_in grid.now signal) (reads_in grid.now signal) hyper published }
 {
-    let next = next_publication(tasks, grid, signal, hyper, published);
+    let next = next_publication(windowed, grid, signal, hyper, published);
     let mut reached = next;
-    for k in 0..tasks.count {
+    for k in 0..windowed.tasks.count {
         if reads(grid, k, signal) {
-            reached = reach(tasks.list[k], published, next, reached);
+            reached = reach(windowed.tasks.list[k], published, next, reached);
         }
     }
     reached

@@ -56,7 +56,7 @@ use Rattle.simulation.proofs.Simulates.{stays_known, simulates_all}
 use Rattle.simulation.proofs.Laid.{blank_loaded, blank_hyper, blank_zero, windowed, windowed_off, period_at, start_at, end_at, count_at, count_beyond, readers_from, uses_end, all_long, all_off, writes_at, reads_at, use_at, carried_at, filled_is}
 
 -- what is needed of the accesses of one kind: which right they are by, where those to signal s begin, and which element each use has
-pub record Kind (g : Given) (C : Checked g) (kind right : ℕ) (first : ℕ → ℕ) (allowed : ℕ → ℕ → Bool) (element : ℕ → ℕ → ℕ → ℕ) : Type 0 where
+pub record Side (g : Given) (C : Checked g) (kind right : ℕ) (first : ℕ → ℕ) (allowed : ℕ → ℕ → Bool) (element : ℕ → ℕ → ℕ → ℕ) : Type 0 where
   pub same : (k s : ℕ) → permits g.grid right k s ≡ allowed s k
   pub from : (s : ℕ) → used g s ≤ first s
   pub to : (s : ℕ) → first s + uses_of g.grid (counted g) right s g.tasks.count ≤ used g s + signal_uses g.grid (counted g) g.tasks.count s
@@ -99,7 +99,7 @@ module _ (g : Given) (C : Checked g) where
       (λ e. count_at g C k (ltb-true k tasks.count e))
       (λ e. let b = ltb-false k tasks.count e in count_beyond g C k b h ∙ sym (count_none g C k b))
 
-  module _ (kind right : ℕ) (first : ℕ → ℕ) (allowed : ℕ → ℕ → Bool) (element : ℕ → ℕ → ℕ → ℕ) (X : Kind g C kind right first allowed element) where
+  module _ (kind right : ℕ) (first : ℕ → ℕ) (allowed : ℕ → ℕ → Bool) (element : ℕ → ℕ → ℕ → ℕ) (X : Side g C kind right first allowed element) where
     abbrev begins : ℕ → ℕ → ℕ
     begins k s = first s + uses_of grid cs right s k
 
@@ -173,7 +173,7 @@ module _ (g : Given) (C : Checked g) where
 
   -- ---- both kinds
 
-  writers : Kind g C writes 2 U T.writes E.writer
+  writers : Side g C writes 2 U T.writes E.writer
   unfolding writes_in
   writers =
       record {
@@ -184,7 +184,7 @@ module _ (g : Given) (C : Checked g) where
         cells_are = writes_at g C;
       }
 
-  readers : Kind g C reads 1 (readers_from g C) T.reads E.reader
+  readers : Side g C reads 1 (readers_from g C) T.reads E.reader
   readers =
       record {
         same = λ k s. reads_is g C s k;

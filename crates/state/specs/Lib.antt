@@ -1,5 +1,5 @@
 -- The machine's numbers in one list with named parts.
 pub mod Parts
-pub mod Kinds
+pub mod Sides
 pub mod Fitness
 pub mod Rows

@@ -1,20 +1,23 @@
-// The machine's numbers in one list with named parts: fitness, a task's instance at the tick, and what is done for one signal, one task, all tasks.
+// The machine's numbers in one list with named parts: fitness, a task's instance at the tick, and what is done for one signal, one instance, all tasks.
+// A narrowing `as` keeps its number: each is proved to. `try_from` would add a refusal that never comes.
 #![tactic(auto)]
 
 ghost use Rattle.std.specs.Prelude.{◌≡◌, ◌||◌, ℕ, ◌+◌, ◌<◌, ◌≤◌, leb, eqb};
 ghost use Rattle.rules.specs.Table.{most_tasks, most_signals, most_uses};
 ghost use Rattle.rules.specs.Words.{up_to};
 ghost use Rattle.state.specs.Parts.{at, none, tick, last_kind};
-ghost use Rattle.state.specs.Kinds.{part_of, right_of};
+ghost use Rattle.state.specs.Sides.{part_of, right_of};
 ghost use Rattle.state.specs.Fitness.{in_block, in_uses, task_fits, tasks_fit, positions_fit, running, fit};
 ghost use Rattle.state.specs.Rows.{window_of, phase_of, instance_if, opening_of, closing_of, inside_of, load, save, lacks, use_of, publish_one, fill_one, carry_one, release_one, at_instance, published, openings, copies, released, advanced, place_of};
 
-use rules::{LONGEST, MOST_SIGNALS, MOST_TASKS, MOST_USES, READ, Refusal, WORDS, WRITE};
+use rules::{LONGEST, MOST_SIGNALS, MOST_TASKS, MOST_USES, READ, Refusal, Side, WORDS, WRITE};
 
 // One cell for each task and signal, a row for each task.
 pub const CELLS: usize = MOST_TASKS * MOST_SIGNALS;
 
-// The parts of the numbers, one after the other: what loading alone writes stands first, what moves with the tick last. Marked as loaded is exactly 1.
+// The parts of the numbers, one after the other: what loading alone writes stands first, what moves with the tick last.
+// One list with named parts, a task's numbers in several of them, because C lends `numbers` of `struct press_machine` so (include/press.h, enum press_part);
+// marked as loaded is exactly 1 for the same reason.
 pub const LOADED: usize = 0;
 
 pub const HYPER: usize = LOADED + 1;
@@ -44,43 +47,29 @@ pub const TICK: usize = HELD + MOST_SIGNALS;
 
 pub const NUMBERS: usize = TICK + 1;
 
-// All positions together.
-const POSITIONS: usize = MOST_USES + 2 * MOST_SIGNALS;
-
 // Stands for no access, where else the index of its first use stands. A number and no Option, because C lends the list as numbers of 16 bits.
 pub const NONE: u16 = 65535;
 
-const BLOCK: u16 = WORDS as u16;
-
-// No task has more instances than there are uses.
+// No task has more instances than there are uses. In the numbers' width, since the last index, which is compared with them, is counted from it.
 const MOST_COUNT: u16 = MOST_USES as u16;
 
-// The two kinds of access that a task has to a signal.
-#[derive(Clone, Copy)]
-pub enum Kind {
-    Reads,
-    Writes,
+// The part of the numbers that has a cell of this side for each task and signal.
+pub fn part(side: Side) -> usize
+    ensures { (result ≡ part_of side) × (result ≤ last_kind) }
+{
+    match side {
+        Side::Readers => READS,
+        Side::Writers => WRITES,
+    }
 }
 
-impl Kind {
-    // The part of the numbers that has a cell of this kind for each task and signal.
-    pub fn part(self) -> usize
-        ensures { (result ≡ part_of self) × (result ≤ last_kind) }
-    {
-        match self {
-            Kind::Reads => READS,
-            Kind::Writes => WRITES,
-        }
-    }
-
-    // The right that permits it, as a cell of the grid has it.
-    pub fn right(self) -> u8
-        ensures { (result ≡ right_of self) × (0 < result) }
-    {
-        match self {
-            Kind::Reads => READ,
-            Kind::Writes => WRITE,
-        }
+// The right that it needs, as a cell of the grid has it.
+pub fn right(side: Side) -> u8
+    ensures { (result ≡ right_of side) × (0 < result) }
+{
+    match side {
+        Side::Readers => READ,
+        Side::Writers => WRITE,
     }
 }
 
@@ -89,18 +78,18 @@ impl Kind {
 fn in_block(position: u16) -> bool
     ensures { result ≡ in_block position }
 {
-    position < BLOCK
+    usize::from(position) < WORDS
 }
 
-#[tactic(auto, using(crate::proofs::Folds::tested), unfolding(crate::specs::Fitness::positions_fit))]
+// By `fold`, here and for a task's accesses: `all` may stop at each number, so these are not compared in blocks. On a fit state it takes 12,500 instructions where
+// this takes 2,000, and 8,700 for the accesses of all tasks where theirs take 1,200 (callgrind, the same lines in plain Rust): a step, now 3,500, would miss its
+// bar of 1.5 times plain (bench/run).
 fn positions_fit(numbers: &[u16; NUMBERS]) -> bool
     ensures { result ≡ positions_fit numbers.now }
 {
-    let mut ok = true;
-    for position in &numbers[USES..TICK] {
-        ok &= in_block(*position);
-    }
-    ok
+    numbers[USES..TICK]
+        .iter()
+        .fold(true, |ok, position| ok & in_block(*position))
 }
 
 // The last index from which the uses of so many instances are inside the list; of none, the list's last.
@@ -118,7 +107,7 @@ fn access_fits(last: u16, first: u16) -> bool
     (first == NONE) | (first <= last)
 }
 
-#[tactic(auto, using(crate::proofs::Folds::tested), unfolding(crate::specs::Fitness::task_fits))]
+#[tactic(auto, unfolding(crate::specs::Fitness::task_fits))]
 fn task_fits(numbers: &[u16; NUMBERS], task: usize) -> bool
     requires { task < most_tasks }
     ensures { result ≡ task_fits numbers.now task }
@@ -128,30 +117,23 @@ fn task_fits(numbers: &[u16; NUMBERS], task: usize) -> bool
         return false;
     }
     let last = last_first(count);
-    let mut ok = true;
-    for s in 0..MOST_SIGNALS {
+    (0..MOST_SIGNALS).fold(true, |ok, s| {
         let reads = access_fits(last, numbers[READS + task * MOST_SIGNALS + s]);
         let writes = access_fits(last, numbers[WRITES + task * MOST_SIGNALS + s]);
-        ok &= reads & writes;
-    }
-    ok
+        ok & (reads & writes)
+    })
 }
 
-#[tactic(auto, using(crate::proofs::Folds::tested), unfolding(crate::specs::Fitness::tasks_fit))]
 fn tasks_fit(numbers: &[u16; NUMBERS]) -> bool
     ensures { result ≡ tasks_fit numbers.now }
 {
-    let mut ok = true;
-    for t in 0..MOST_TASKS {
-        ok &= task_fits(numbers, t);
-    }
-    ok
+    (0..MOST_TASKS).all(|t| task_fits(numbers, t))
 }
 
 fn is_running(loaded: u16, hyper: u16, tick: u16) -> bool
     ensures { result ≡ running loaded hyper tick }
 {
-    (loaded == 1) & (1 <= hyper) & (hyper <= LONGEST as u16) & (tick < hyper)
+    (loaded == 1) & (1 <= hyper) & (u32::from(hyper) <= LONGEST) & (tick < hyper)
 }
 
 #[tactic(auto, unfolding(crate::specs::Fitness::fit))]
@@ -208,7 +190,8 @@ pub fn task_window(numbers: &[u16; NUMBERS], task: usize) -> Window
     }
 }
 
-// The instance that opens at the tick, that closes at the next one, that is inside its window now.
+// The instance that opens at the tick, that closes at the next one, that is inside its window now. Each has its own test; one function for all three would take
+// it as a closure of the phase and the window, and its contract, over the closure's call, would be longer than the two lines that they share.
 
 #[tactic(auto, unfolding(crate::specs::Rows::opening_of))]
 fn opening(numbers: &[u16; NUMBERS], task: usize) -> Option<u16>
@@ -262,35 +245,43 @@ pub fn save(store: &mut [u32; WORDS], position: u16, word: u32)
     }
 }
 
-// One signal of one task's instance.
+// One of a task's instances, by its number from 0.
+#[derive(Clone, Copy)]
+pub struct Instance {
+    pub task: usize,
+    pub number: u16,
+    pub ghost few: { task < most_tasks },
+}
 
-fn lacks(numbers: &[u16; NUMBERS], kind: Kind, task: usize, signal: usize) -> bool
+// One signal of one instance.
+
+fn lacks(numbers: &[u16; NUMBERS], side: Side, task: usize, signal: usize) -> bool
     requires { (task < most_tasks) × (signal < most_signals) }
-    ensures { result ≡ lacks numbers.now (part_of kind) task signal }
+    ensures { result ≡ lacks numbers.now (part_of side) task signal }
 {
-    numbers[kind.part() + task * MOST_SIGNALS + signal] == NONE
+    numbers[part(side) + task * MOST_SIGNALS + signal] == NONE
 }
 
 // Where the instance has the signal. A fit state has no use past the list; there 0 is found.
 #[tactic(auto, unfolding(crate::specs::Rows::use_of))]
-fn use_of(numbers: &[u16; NUMBERS], kind: Kind, task: usize, instance: u16, signal: usize) -> u16
-    requires { (task < most_tasks) × (signal < most_signals) }
-    ensures { result ≡ use_of numbers.now (part_of kind) task instance signal }
+fn use_of(numbers: &[u16; NUMBERS], side: Side, instance: Instance, signal: usize) -> u16
+    requires { signal < most_signals }
+    ensures { result ≡ use_of numbers.now (part_of side) instance.task instance.number signal }
 {
-    let first = numbers[kind.part() + task * MOST_SIGNALS + signal];
-    let k = usize::from(first) + usize::from(instance);
+    let first = numbers[part(side) + instance.task * MOST_SIGNALS + signal];
+    let k = usize::from(first) + usize::from(instance.number);
     if k < MOST_USES { numbers[USES + k] } else { 0 }
 }
 
 #[tactic(auto, unfolding(crate::specs::Rows::publish_one))]
-fn publish_one(numbers: &mut [u16; NUMBERS], task: usize, instance: u16, signal: usize)
-    requires { (task < most_tasks) × (signal < most_signals) }
-    ensures { numbers.new ≡ publish_one task instance signal numbers.old }
+fn publish_one(numbers: &mut [u16; NUMBERS], instance: Instance, signal: usize)
+    requires { signal < most_signals }
+    ensures { numbers.new ≡ publish_one instance.task instance.number signal numbers.old }
 {
-    if lacks(numbers, Kind::Writes, task, signal) {
+    if lacks(numbers, Side::Writers, instance.task, signal) {
         return;
     }
-    numbers[HELD + signal] = use_of(numbers, Kind::Writes, task, instance, signal);
+    numbers[HELD + signal] = use_of(numbers, Side::Writers, instance, signal);
 }
 
 #[tactic(auto, unfolding(crate::specs::Rows::fill_one))]
@@ -298,21 +289,17 @@ fn fill_one<'a>(
     numbers: &'a [u16; NUMBERS],
     words: &'a [u32; MOST_SIGNALS],
     store: &mut [u32; WORDS],
-    task: usize,
-    instance: u16,
+    instance: Instance,
     signal: usize,
 )
-    requires { (task < most_tasks) × (signal < most_signals) }
-    ensures { store.new ≡ fill_one numbers.now words.now task instance signal store.old }
+    requires { signal < most_signals }
+    ensures { store.new ≡ fill_one numbers.now words.now instance.task instance.number signal store.old }
 {
-    if lacks(numbers, Kind::Writes, task, signal) {
+    if lacks(numbers, Side::Writers, instance.task, signal) {
         return;
     }
-    save(
-        store,
-        use_of(numbers, Kind::Writes, task, instance, signal),
-        words[signal],
-    );
+    let position = use_of(numbers, Side::Writers, instance, signal);
+    save(store, position, words[signal]);
 }
 
 #[tactic(auto, unfolding(crate::specs::Rows::carry_one))]
@@ -332,15 +319,15 @@ fn release_one(numbers: &mut [u16; NUMBERS], signal: usize)
     numbers[HELD + signal] = numbers[CARRIED + signal];
 }
 
-// Every signal of one task's instance. One loop for both would take the step as a closure, and its contract, by `FoldsTo` over the closure's calls, is longer than these two.
+// Every signal of one instance. One loop for these two and the four over all tasks and all signals below (`publish_all`, `open_all`, `carry_all`, `release_all`)
+// would take its turn as a closure, and its contract, by `FoldsTo` over the closure's calls, is longer than each of the six.
 
 #[tactic(auto, using(crate::proofs::Folds::acted))]
-fn publish_row(numbers: &mut [u16; NUMBERS], task: usize, instance: u16)
-    requires { task < most_tasks }
-    ensures { numbers.new ≡ up_to most_signals (publish_one task instance) numbers.old }
+fn publish_row(numbers: &mut [u16; NUMBERS], instance: Instance)
+    ensures { numbers.new ≡ up_to most_signals (publish_one instance.task instance.number) numbers.old }
 {
     for s in 0..MOST_SIGNALS {
-        publish_one(numbers, task, instance, s);
+        publish_one(numbers, instance, s);
     }
 }
 
@@ -349,40 +336,12 @@ fn fill_row<'a>(
     numbers: &'a [u16; NUMBERS],
     words: &'a [u32; MOST_SIGNALS],
     store: &mut [u32; WORDS],
-    task: usize,
-    instance: u16,
+    instance: Instance,
 )
-    requires { task < most_tasks }
-    ensures { store.new ≡ up_to most_signals (fill_one numbers.now words.now task instance) store.old }
+    ensures { store.new ≡ up_to most_signals (fill_one numbers.now words.now instance.task instance.number) store.old }
 {
     for s in 0..MOST_SIGNALS {
-        fill_one(numbers, words, store, task, instance, s);
-    }
-}
-
-// One task: the instance that closes or opens, if one does.
-
-fn publish_task(numbers: &mut [u16; NUMBERS], task: usize, closes: Option<u16>)
-    requires { task < most_tasks }
-    ensures { numbers.new ≡ at_instance (publish_one task) closes numbers.old }
-{
-    if let Some(i) = closes {
-        publish_row(numbers, task, i);
-    }
-}
-
-fn fill_task<'a>(
-    numbers: &'a [u16; NUMBERS],
-    words: &'a [u32; MOST_SIGNALS],
-    store: &mut [u32; WORDS],
-    task: usize,
-    opens: Option<u16>,
-)
-    requires { task < most_tasks }
-    ensures { store.new ≡ at_instance (fill_one numbers.now words.now task) opens store.old }
-{
-    if let Some(i) = opens {
-        fill_row(numbers, words, store, task, i);
+        fill_one(numbers, words, store, instance, s);
     }
 }
 
@@ -393,8 +352,9 @@ pub fn publish_all(numbers: &mut [u16; NUMBERS])
     ensures { numbers.new ≡ published numbers.old }
 {
     for t in 0..MOST_TASKS {
-        let closes = closing(numbers, t);
-        publish_task(numbers, t, closes);
+        if let Some(number) = closing(numbers, t) {
+            publish_row(numbers, Instance { task: t, number });
+        }
     }
 }
 
@@ -407,7 +367,9 @@ pub fn open_all<'a>(
     ensures { store.new ≡ openings numbers.now defaults.now store.old }
 {
     for t in 0..MOST_TASKS {
-        fill_task(numbers, defaults, store, t, opening(numbers, t));
+        if let Some(number) = opening(numbers, t) {
+            fill_row(numbers, defaults, store, Instance { task: t, number });
+        }
     }
 }
 
@@ -448,15 +410,15 @@ pub fn advance(numbers: &mut [u16; NUMBERS], store: &mut [u32; WORDS])
 #[tactic(auto, unfolding(crate::specs::Rows::place_of, rules::specs::Words::when))]
 pub fn locate(
     numbers: &[u16; NUMBERS],
-    kind: Kind,
+    side: Side,
     task: usize,
     signal: usize,
 ) -> Result<u16, Refusal>
-    ensures { result ≡ place_of numbers.now (part_of kind) task signal }
+    ensures { result ≡ place_of numbers.now (part_of side) task signal }
 {
-    if MOST_TASKS <= task || MOST_SIGNALS <= signal || lacks(numbers, kind, task, signal) {
+    if MOST_TASKS <= task || MOST_SIGNALS <= signal || lacks(numbers, side, task, signal) {
         return Err(Refusal::NoAccess);
     }
-    let i = inside(numbers, task).ok_or(Refusal::Outside)?;
-    Ok(use_of(numbers, kind, task, i, signal))
+    let number = inside(numbers, task).ok_or(Refusal::Outside)?;
+    Ok(use_of(numbers, side, Instance { task, number }, signal))
 }

@@ -1,5 +1,5 @@
 -- What the code has at hand of an opening or closing gives what the pass does there. Assumes nothing.
-use mathlib.Core.Bool.{Bool, true, false, cond}
+use mathlib.Core.Bool.{Bool, true, false, ◌||◌}
 use mathlib.Core.List.{List}
 use mathlib.Core.Logic.{◌⊎◌, inl, inr, ⊎_elim}
 use mathlib.Core.Path.{◌≡◌, refl, sym, ap, ◌∙◌}
@@ -17,20 +17,20 @@ use Rattle.rules.specs.Windows.{Table, opens, closes, instance, instances, hyper
 use Rattle.rules.specs.Table.{most_tasks, most_elements}
 use Rattle.rules.specs.Schedule.{Schedule}
 use Rattle.rules.specs.Bytes.{wi, ri, writers_below, readers_below, size_of, start_of, schedule_in}
-use Rattle.rules.specs.Reading.{Grid, cell_at, task_of, no_signals, writes_in, reads_in}
-use Rattle.rules.specs.declared.Tasks.{Tasks}
+use Rattle.rules.specs.Reading.{cell_at, task_of, writes_in, reads_in}
 use Rattle.theory.specs.Sweep.{Pass, task_in, tick_in, is_opening, opened, closed, acted, reader_opens, writer_opens, writer_closes, handled, events, through, sweep}
-use Rattle.theory.proofs.Tests.{split, holds, not_both}
+use Rattle.theory.proofs.Tests.{split, holds, not_both, not_or_left, not_or_right}
 use Rattle.theory.proofs.Time.{instance_is, instance_lt, closes_le}
 use Rattle.theory.proofs.Swept.{opening_digits, closing_digits}
 use Rattle.theory.proofs.Lists.{all_at}
 use Rattle.theory.proofs.Events.{IsEvent, events_all}
-use Rattle.events.specs.Order.{tasks_table}
 use Rattle.events.proofs.Alone.{events_alone}
-use Rattle.sweep.specs.Pass.{grid_table, pass_of, unswept, has, may_read, may_write, element_at, Inside, Writes, read_of, wrote_of, closed_of, handled_of, Handles, Inspects, AreActs}
+use Rattle.accept.specs.Accepts.{its_table}
+use Rattle.accept.specs.declared.Accepted.{Accepted}
+use Rattle.sweep.specs.Pass.{pass_of, unswept, may_read, may_write, element_at, Inside, read_of, wrote_of, closed_of, handled_of, Handles, Inspects, AreActs}
 use Rattle.sweep.specs.declared.Places.{Places}
-use Rattle.sweep.specs.declared.Standing.{Standing}
-use Rattle.sweep.specs.declared.Turn.{Turn}
+use Rattle.sweep.specs.declared.swept.Swept.{Swept}
+use Rattle.sweep.specs.declared.swept.Turn.{Turn}
 
 -- ---- places
 
@@ -69,36 +69,15 @@ module _ (tab : Table) (s : ℕ) where
 
 -- ---- an opening or closing
 
--- what the test of a cell says
-pub has_read : (cell : ℕ) {r b : Bool} → r ≡ has cell 1 → r ≡ b → may_read cell ≡ b
-has_read cell e q = let d : cell / 1 ≡ cell = omega arith in ap (λ (n : ℕ). eqb (n % 2) 1) (sym d) ∙ sym e ∙ q
-
-pub has_write : (cell : ℕ) {r b : Bool} → r ≡ has cell 2 → r ≡ b → may_write cell ≡ b
-has_write cell e q = sym e ∙ q
-
--- two ways that leave the same element standing
-cond_current : (b : Bool) (p q : Pass) → p.current ≡ q.current → (cond b p q).current ≡ q.current
-cond_current true p q e = e
-cond_current false p q e = refl
-
-module _ (bytes : List ℕ) (p : Pass) (x : Turn) where
-  opening_current : (wrote_of bytes (read_of bytes p x) x).current ≡ p.current
-  unfolding read_of wrote_of
-  opening_current = cond_current (may_write x.cell) _ _ refl ∙ cond_current (may_read x.cell) _ _ refl
-
-  closing_current : p.current < most_elements → Writes bytes x (x.tick - 1) → (closed_of bytes p x).current < most_elements
-  unfolding closed_of
-  closing_current h w = split (may_write x.cell) (λ q. rw q (w q).1) (λ q. rw q h)
-
-module _ (tasks : Tasks) (grid : Grid) (s : ℕ) (list : List ℕ) (places : Places) (bytes : List ℕ) (I : Inspects tasks grid s list places bytes) where
+module _ (a : Accepted) (s : ℕ) (list : List ℕ) (places : Places) (bytes : List ℕ) (I : Inspects a s list places bytes) where
   abbrev tab : Table
-  tab = grid_table tasks grid
+  tab = its_table a
 
   abbrev E : Schedule
   E = schedule_in tab bytes
 
   abbrev turn : ℕ → ℕ → Turn
-  turn k t = record { cell = cell_at grid k s; tick = t; task = task_of tasks k; readers = get_or places.readers k 0; writers = get_or places.writers k 0 }
+  turn k t = record { cell = cell_at a.grid k s; tick = t; task = task_of a.tasks k; readers = get_or places.readers k 0; writers = get_or places.writers k 0 }
 
   -- what the code has at hand of the event n
   abbrev pub turn_at : ℕ → Turn
@@ -116,7 +95,7 @@ module _ (tasks : Tasks) (grid : Grid) (s : ℕ) (list : List ℕ) (places : Pla
 
   known : (n : ℕ) → IsEvent tab n → Known n
   known n (k, i, h, l, inl e) =
-      let F = I.given.fits in
+      let F = a.fits in
       let d = opening_digits (opens tab k i) k (omega (arith, F.few_tasks)) in
       let z = instance_is tab F k i (opens tab k i) h (omega arith) (omega (arith, F.window k h)) in
       let w : opens tab k i < hyper tab = omega (arith, F.window k h, closes_le tab F k i h l) in
@@ -127,7 +106,7 @@ module _ (tasks : Tasks) (grid : Grid) (s : ℕ) (list : List ℕ) (places : Pla
         closes_at = λ q. absurd (not_both d.0 q);
       })
   known n (k, i, h, l, inr e) =
-      let F = I.given.fits in
+      let F = a.fits in
       let d = closing_digits (closes tab k i) k (omega (arith, F.few_tasks)) in
       rw e (record {
         task = rw d.1 h;
@@ -137,10 +116,10 @@ module _ (tasks : Tasks) (grid : Grid) (s : ℕ) (list : List ℕ) (places : Pla
       })
     where
       at : (c : ℕ) → closes tab k i ≡ c → (t : ℕ) × (c ≡ suc t) × (closes tab k (instance tab k t) ≡ suc t) × (t < hyper tab)
-      at zero q = absurd (omega (arith, I.given.fits.window k h))
+      at zero q = absurd (omega (arith, a.fits.window k h))
       at (suc t) q =
-          let z = instance_is tab I.given.fits k i t h (omega (arith, I.given.fits.window k h)) (omega arith) in
-          (t, refl, rw z q, omega (arith, closes_le tab I.given.fits k i h l))
+          let z = instance_is tab a.fits k i t h (omega (arith, a.fits.window k h)) (omega arith) in
+          (t, refl, rw z q, omega (arith, closes_le tab a.fits k i h l))
 
   opening_is : (k t : ℕ) (p : Pass) → k < tab.tasks → opens tab k (instance tab k t) ≡ t → wrote_of bytes (read_of bytes p (turn k t)) (turn k t) ≡ opened tab s (reader_opens tab E s) (writer_opens tab E s) p k t
   unfolding read_of wrote_of schedule_in writes_in reads_in
@@ -167,25 +146,25 @@ module _ (tasks : Tasks) (grid : Grid) (s : ℕ) (list : List ℕ) (places : Pla
       rw (q, e, f) (closing_is (task_in n) t p K.task)))
 
   -- the element of a writer's instance is there, and is an element
-  writes_in_lem : (k t : ℕ) → k < tab.tasks → t < hyper tab → may_write (cell_at grid k s) ≡ true → Inside bytes (get_or places.writers k 0) (instance tab k t) × (element_at bytes (get_or places.writers k 0) (instance tab k t) < most_elements)
+  writes_in_lem : (k t : ℕ) → k < tab.tasks → t < hyper tab → may_write (cell_at a.grid k s) ≡ true → Inside bytes (get_or places.writers k 0) (instance tab k t) × (element_at bytes (get_or places.writers k 0) (instance tab k t) < most_elements)
   unfolding schedule_in writes_in
   writes_in_lem k t h l w =
-      let i = instance_lt tab I.given.fits k t h l in
+      let i = instance_lt tab a.fits k t h l in
       let e = I.placed.writers k h in
       let f = writer_step tab s k (instance tab k t) in
       (omega (arith, writer_inside tab s k (instance tab k t) h w i, I.whole), rw (e, ← f) (I.low k (instance tab k t) h (holds w) i))
 
-  reads_in_lem : (k t : ℕ) → k < tab.tasks → t < hyper tab → may_read (cell_at grid k s) ≡ true → Inside bytes (get_or places.readers k 0) (instance tab k t)
+  reads_in_lem : (k t : ℕ) → k < tab.tasks → t < hyper tab → may_read (cell_at a.grid k s) ≡ true → Inside bytes (get_or places.readers k 0) (instance tab k t)
   unfolding reads_in
   reads_in_lem k t h l w =
       let e = I.placed.readers k h in
       let f = reader_step tab s k (instance tab k t) in
-      omega (arith, reader_inside tab s k (instance tab k t) h w (instance_lt tab I.given.fits k t h l), I.whole)
+      omega (arith, reader_inside tab s k (instance tab k t) h w (instance_lt tab a.fits k t h l), I.whole)
 
   pub handles : (n : ℕ) → IsEvent tab n → Handles bytes n (turn_at n)
   handles n x =
       let K = known n x in
-      let F = I.given.fits in
+      let F = a.fits in
       rw (turn_is n) (record {
         fits = record { window = F.window (task_in n) K.task; within = F.within (task_in n) K.task; short = F.short (task_in n) K.task; early = omega (arith, K.tick, F.hyper_short) };
         opens = λ q. let o = K.opens_at_lem q in ((λ r. (omega (arith, o.0), reads_in_lem (task_in n) (tick_in n) K.task o.1 r)), λ r. writes_in_lem (task_in n) (tick_in n) K.task o.1 r);
@@ -194,17 +173,8 @@ module _ (tasks : Tasks) (grid : Grid) (s : ℕ) (list : List ℕ) (places : Pla
             (omega arith, λ r. rw f (writes_in_lem (task_in n) t K.task l r));
       })
 
-  -- the value that stands has an element
-  pub current_low : (n : ℕ) (p : Pass) → IsEvent tab n → p.current < most_elements → (handled tab E s p n).current < most_elements
-  unfolding handled_of
-  current_low n p x h =
-      let H = handles n x in
-      rw (← handled_is n p x) (split (is_opening n)
-      (λ q. rw q (rw (opening_current bytes p (turn_at n)) h))
-      (λ q. rw q (closing_current bytes p (turn_at n) h (H.closes q).1)))
-
   -- what is nothing for the signal changes nothing
-  pub skipped : (n : ℕ) (p : Pass) (acts : List ℕ) → IsEvent tab n → AreActs grid s tasks.count acts → get_or acts (n % (2 * most_tasks)) 0 ≡ 0 → handled tab E s p n ≡ p
+  pub skipped : (n : ℕ) (p : Pass) (acts : List Bool) → IsEvent tab n → AreActs a.grid s a.tasks.count acts → get_or acts (n % (2 * most_tasks)) false ≡ false → handled tab E s p n ≡ p
   unfolding handled_of read_of wrote_of closed_of
   skipped n p acts x A e =
       let K = known n x in
@@ -213,23 +183,22 @@ module _ (tasks : Tasks) (grid : Grid) (s : ℕ) (list : List ℕ) (places : Pla
       sym (handled_is n p x) ∙ split (is_opening n)
       (λ q.
       let z : n % (2 * most_tasks) ≡ most_tasks + task_in n = omega (arith, eqb-true (n / most_tasks % 2) 1 q) in
-      let c : cell_at grid (task_in n) s ≡ 0 = sym (A.opening (task_in n) K.task) ∙ ap (λ y. get_or acts y 0) (sym z) ∙ e in
-      rw (q, c))
+      let c : (may_read (cell_at a.grid (task_in n) s) || may_write (cell_at a.grid (task_in n) s)) ≡ false = sym (A.opening (task_in n) K.task) ∙ ap (λ y. get_or acts y false) (sym z) ∙ e in
+      let r : may_read (cell_at a.grid (task_in n) s) ≡ false = not_or_left _ _ c in
+      let w : may_write (cell_at a.grid (task_in n) s) ≡ false = not_or_right _ _ c in
+      rw (q, r, w))
       (λ q.
       let z : n % (2 * most_tasks) ≡ task_in n = omega (arith, eqb-false (n / most_tasks % 2) 1 q, mod-lt (n / most_tasks) two) in
-      let c : cell_at grid (task_in n) s / 2 ≡ 0 = sym (A.closing (task_in n) K.task) ∙ ap (λ y. get_or acts y 0) (sym z) ∙ e in
+      let c : may_write (cell_at a.grid (task_in n) s) ≡ false = sym (A.closing (task_in n) K.task) ∙ ap (λ y. get_or acts y false) (sym z) ∙ e in
       rw (q, c))
 
   -- ---- one after the other
 
-  same_events : events (tasks_table tasks) ≡ events tab
-  same_events = sym (events_alone tasks no_signals grid)
-
   listed : list ≡ events tab
-  listed = I.given.listed ∙ same_events
+  listed = I.listed ∙ sym (events_alone a.tasks a.signals a.grid)
 
   pub is_event : (n : ℕ) → n < length list → IsEvent tab (get_or list n 0)
-  is_event n h = rw listed (all_at (IsEvent tab) 0 (events tab) (events_all tab I.given.fits) n (omega (arith, ap length listed)))
+  is_event n h = rw listed (all_at (IsEvent tab) 0 (events tab) (events_all tab a.fits) n (omega (arith, ap length listed)))
 
   pub pass_turn : (n : ℕ) (p : Pass) → n < length list → through (handled tab E s) p (drop n (events tab)) ≡ through (handled tab E s) (handled tab E s p (get_or list n 0)) (drop (n + 1) (events tab))
   unfolding through
@@ -240,23 +209,21 @@ module _ (tasks : Tasks) (grid : Grid) (s : ℕ) (list : List ℕ) (places : Pla
   pass_ends n p h = rw (h ∙ ap length listed, drop-length (events tab))
 
   -- one turn of the loop
-  abbrev pub Left : ℕ → Standing → Type 0
-  Left n p = (p.current < most_elements) × (through (handled tab E s) (pass_of p) (drop n (events tab)) ≡ sweep tab E s)
+  abbrev pub Left : ℕ → Swept → Type 0
+  Left n p = through (handled tab E s) (pass_of p) (drop n (events tab)) ≡ sweep tab E s
 
-  pub pass_starts : (p : Standing) → pass_of p ≡ unswept → Left 0 p
+  pub pass_starts : (p : Swept) → pass_of p ≡ unswept → Left 0 p
   unfolding sweep
-  pass_starts p e = (omega (arith, ap (λ (q : Pass). q.current) e), ap (λ q. through (handled tab E s) q (drop 0 (events tab))) e)
+  pass_starts p e = ap (λ q. through (handled tab E s) q (drop 0 (events tab))) e
 
-  pub pass_next : (n : ℕ) (acts : List ℕ) (p r : Standing) → n < length list → AreActs grid s tasks.count acts → Left n p
-      → (pass_of r ≡ handled_of bytes (get_or list n 0) (pass_of p) (turn_at (get_or list n 0))) ⊎ ((get_or acts (get_or list n 0 % (2 * most_tasks)) 0 ≡ 0) × (r ≡ p))
+  pub pass_next : (n : ℕ) (acts : List Bool) (p r : Swept) → n < length list → AreActs a.grid s a.tasks.count acts → Left n p
+      → (pass_of r ≡ handled_of bytes (get_or list n 0) (pass_of p) (turn_at (get_or list n 0))) ⊎ ((get_or acts (get_or list n 0 % (2 * most_tasks)) false ≡ false) × (r ≡ p))
       → Left (n + 1) r
   pass_next n acts p r h A l c =
       let x = is_event n h in
       let e : pass_of r ≡ handled tab E s (pass_of p) (get_or list n 0) =
-      ⊎_elim (λ q. q ∙ handled_is (get_or list n 0) (pass_of p) x) (λ q. ap pass_of q.1 ∙ sym (skipped (get_or list n 0) (pass_of p) acts x A q.0)) c in (
-        omega (arith, ap (λ (q : Pass). q.current) e, current_low (get_or list n 0) (pass_of p) x l.0),
-        ap (λ q. through (handled tab E s) q (drop (n + 1) (events tab))) e ∙ sym (pass_turn n (pass_of p) h) ∙ l.1,
-      )
+      ⊎_elim (λ q. q ∙ handled_is (get_or list n 0) (pass_of p) x) (λ q. ap pass_of q.1 ∙ sym (skipped (get_or list n 0) (pass_of p) acts x A q.0)) c in
+      ap (λ q. through (handled tab E s) q (drop (n + 1) (events tab))) e ∙ sym (pass_turn n (pass_of p) h) ∙ l
 
-  pub pass_right : (n : ℕ) (p : Standing) → n ≡ length list → Left n p → p.right ≡ (sweep tab E s).right
-  pass_right n p h l = ap (λ (q : Pass). q.right) (sym (pass_ends n (pass_of p) h) ∙ l.1)
+  pub pass_right : (n : ℕ) (p : Swept) → n ≡ length list → Left n p → p.clean ≡ (sweep tab E s).right
+  pass_right n p h l = ap (λ (q : Pass). q.right) (sym (pass_ends n (pass_of p) h) ∙ l)

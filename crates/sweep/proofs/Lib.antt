@@ -1,4 +1,4 @@
 pub mod Inspected
-pub mod Rows
+pub mod Placed
 pub mod Whole
 pub mod Accepts

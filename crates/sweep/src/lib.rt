@@ -1,62 +1,32 @@
 // The check of one signal's elements in one pass over the openings and closings of the hyper-period.
+// usize has no From of u32, and `try_from` would add a case that never comes: `as` keeps each number.
 #![tactic(auto)]
 
-ghost use Rattle.std.specs.Prelude.{suc, ◌*◌, ◌-◌, ◌<◌, ◌≤◌, ◌≡◌};
-ghost use Rattle.sweep.specs.Pass.{pass_of, unswept, has, element_at, Inside, TurnFits, Reads, read_of, Writes, wrote_of, closed_of, Handles, handled_of, grid_table, Inspects, records_of, farthest, longest_bytes, IsRow, ArePlaces, InspectsAll, all_swept, AreActs};
+mod swept;
+
+ghost use Rattle.std.specs.Prelude.{suc, ◌<◌, ◌≤◌, ◌≡◌};
 ghost use Rattle.rules.specs.Words.{total};
-ghost use Rattle.rules.specs.Windows.{hyper};
-ghost use Rattle.rules.specs.Table.{most_tasks, most_signals, most_elements, Fits};
+ghost use Rattle.rules.specs.Table.{most_signals};
 ghost use Rattle.rules.specs.Bytes.{size_of, schedule_in};
 ghost use Rattle.theory.specs.Sweep.{sweep};
+ghost use Rattle.accept.specs.Accepts.{its_table};
+ghost use Rattle.accept.specs.declared.Accepted.{Accepted};
+ghost use Rattle.sweep.specs.Pass.{has, element_at, Inside, Inspects, longest_bytes, AreUsers, ArePlaces, InspectsAll, all_swept, AreActs};
 
-use events::{KIND, TICK, is_opening};
-use rules::{
-    BF_BYTES, CARRIED_ELEMENT, ELEMENT_AT, LONGEST, MOST_ELEMENTS, MOST_SIGNALS, MOST_TASKS, READ,
-    Task, Tasks, USE_BYTES, WRITE,
-};
+use crate::swept::{Swept, Turn};
+use accept::Accepted;
+use events::{KIND, TICK};
+use form::Users;
+use rules::{BF_BYTES, ELEMENT_AT, MOST_TASKS, READ, Side, USE_BYTES, WRITE};
 
 // A closing and an opening for each task.
 pub const KINDS: usize = TICK as usize;
-
-// What the pass keeps: whether no mistake was met; until when each element is held; the element of the value that stands; the last
-// closing of the readers that opened since it was published.
-#[derive(Clone, Copy)]
-pub struct Standing {
-    pub right: bool,
-    pub held: [u32; MOST_ELEMENTS],
-    pub current: usize,
-    pub reach: u32,
-}
 
 // Where the element of the first instance of each task stands, as a reader and as a writer of the signal.
 #[derive(Clone, Copy)]
 pub struct Places {
     pub readers: [usize; MOST_TASKS],
     pub writers: [usize; MOST_TASKS],
-}
-
-// The places of the readers, or of the writers, and where the records after them begin.
-#[derive(Clone, Copy)]
-pub struct Row {
-    pub at: [usize; MOST_TASKS],
-    pub end: usize,
-}
-
-// The places of a signal, and where the next signal's records begin.
-#[derive(Clone, Copy)]
-pub struct Located {
-    pub places: Places,
-    pub end: usize,
-}
-
-// An opening or closing of a task: its cell of the grid, the tick, and the task's places.
-#[derive(Clone, Copy)]
-pub struct Turn {
-    pub cell: u8,
-    pub tick: u32,
-    pub task: Task,
-    pub readers: usize,
-    pub writers: usize,
 }
 
 // The element of instance i.
@@ -67,202 +37,89 @@ pub fn element_at(schedule: &[u8], first: usize, i: u32) -> usize
     usize::from(schedule[first + USE_BYTES * i as usize])
 }
 
-// Whether the cell of a task allows it to read, or to write.
-fn has(cell: u8, right: u8) -> bool
-    requires { 1 ≤ right }
-    ensures { result ≡ has cell right }
+// Whether the cell of a task lets it be on this side of the signal.
+fn has(cell: u8, side: Side) -> bool
+    ensures { result ≡ has side cell }
 {
-    cell / right % 2 == 1
-}
-
-impl Standing {
-    // The carried value stands, and its element is held until it is published over.
-    fn first() -> Standing
-        ensures { pass_of result ≡ unswept }
-    {
-        let mut held = [0; MOST_ELEMENTS];
-        held[CARRIED_ELEMENT] = LONGEST;
-        Standing {
-            right: true,
-            held,
-            current: CARRIED_ELEMENT,
-            reach: 0,
-        }
-    }
-
-    // A reader opens.
-    fn read(&mut self, schedule: &[u8], x: Turn)
-        requires { TurnFits x × Reads schedule.now x }
-        ensures { pass_of self.new ≡ read_of schedule.now (pass_of self.old) x }
-    {
-        if !has(x.cell, READ) {
-            return;
-        }
-        let element = element_at(schedule, x.readers, x.tick / x.task.period);
-        self.right = self.right & (element == self.current);
-        self.reach = self.reach.max(x.tick - x.task.start + x.task.end);
-    }
-
-    // A writer opens.
-    fn write(&mut self, schedule: &[u8], x: Turn)
-        requires { TurnFits x × Writes schedule.now x x.tick }
-        ensures { pass_of self.new ≡ wrote_of schedule.now (pass_of self.old) x }
-    {
-        if !has(x.cell, WRITE) {
-            return;
-        }
-        let element = element_at(schedule, x.writers, x.tick / x.task.period);
-        let free = self.held[element] <= x.tick;
-        self.right = self.right & free;
-        self.held[element] = LONGEST;
-    }
-
-    // A writer publishes.
-    fn publish(&mut self, schedule: &[u8], x: Turn)
-        requires { TurnFits x × (1 ≤ x.tick) × Writes schedule.now x (x.tick - 1) × (self.old.current < most_elements) }
-        ensures { pass_of self.new ≡ closed_of schedule.now (pass_of self.old) x }
-    {
-        if !has(x.cell, WRITE) {
-            return;
-        }
-        let element = element_at(schedule, x.writers, (x.tick - 1) / x.task.period);
-        self.held[self.current] = x.tick.max(self.reach);
-        self.current = element;
-        self.reach = 0;
-    }
-
-    // A task opens or closes.
-    fn handle(&mut self, schedule: &[u8], event: u32, x: Turn)
-        requires { Handles schedule.now event x × (self.old.current < most_elements) }
-        ensures { pass_of self.new ≡ handled_of schedule.now event (pass_of self.old) x }
-    {
-        if is_opening(event) {
-            self.read(schedule, x);
-            self.write(schedule, x);
-        } else {
-            self.publish(schedule, x);
-        }
+    match side {
+        Side::Writers => cell / WRITE % 2 == 1,
+        Side::Readers => cell / READ % 2 == 1,
     }
 }
 
-// For each task what its closing, and its opening, is for the signal: 0 where it is nothing.
-fn acts_of(count: usize, grid: &[[u8; MOST_SIGNALS]; MOST_TASKS], s: usize) -> [u8; KINDS]
-    requires { (count ≤ most_tasks) × (s < most_signals) }
-    ensures { AreActs grid.now s count result }
+// For each task whether its closing, and its opening, is anything for the signal.
+fn acts_of(accepted: &Accepted, signal: usize) -> [bool; KINDS]
+    requires { signal < most_signals }
+    ensures { AreActs accepted.now.grid signal accepted.now.tasks.count result }
 {
-    let mut acts = [0; KINDS];
-    for k in 0..count {
-        let cell = grid[k][s];
-        acts[k] = cell / WRITE;
-        acts[MOST_TASKS + k] = cell;
+    let mut acts = [false; KINDS];
+    for k in 0..accepted.tasks.count {
+        let cell = accepted.grid[k][signal];
+        acts[k] = has(cell, Side::Writers);
+        acts[MOST_TASKS + k] = has(cell, Side::Readers) | has(cell, Side::Writers);
     }
     acts
 }
 
 // One pass over the openings and closings.
-pub fn signal_passes(
+#[tactic(auto, using(crate::proofs::Inspected::pass_right))]
+fn signal_passes(
     events: &[u32],
-    tasks: Tasks,
-    grid: &[[u8; MOST_SIGNALS]; MOST_TASKS],
-    s: usize,
+    accepted: &Accepted,
+    signal: usize,
     places: Places,
     schedule: &[u8],
 ) -> bool
-    requires { Inspects tasks grid.now s events.now places schedule.now }
-    ensures { result ≡ (sweep (grid_table tasks grid.now) (schedule_in (grid_table tasks grid.now) schedule.now) s).right }
+    requires { Inspects accepted.now signal events.now places schedule.now }
+    ensures { result ≡ (sweep (its_table accepted.now) (schedule_in (its_table accepted.now) schedule.now) signal).right }
 {
-    let acts = acts_of(tasks.count, grid, s);
-    let mut standing = Standing::first();
+    let acts = acts_of(accepted, signal);
+    let mut swept = Swept::first();
     for &event in events {
-        if acts[(event % TICK) as usize] != 0 {
+        if acts[(event % TICK) as usize] {
+            // Not by `events::task_in` and `tick_in`: tried, and `handle-requires` does not close.
             let k = (event % KIND) as usize;
             let turn = Turn {
-                cell: grid[k][s],
+                cell: accepted.grid[k][signal],
                 tick: event / TICK,
-                task: tasks.list[k],
+                task: accepted.tasks.list[k],
                 readers: places.readers[k],
                 writers: places.writers[k],
             };
-            standing.handle(schedule, event, turn);
+            swept.handle(schedule, event, turn);
         }
     }
-    standing.right
+    swept.clean
 }
 
-// The bytes of the records of one task.
-fn records_of(cell: u8, right: u8, instances: u32) -> usize
-    requires { 1 ≤ right }
-    ensures { result ≡ 7 * records_of cell right instances }
+// The places of a signal whose records begin at `next`, which moves on past them all.
+#[tactic(auto, using(crate::proofs::Placed::below_few))]
+pub fn places_at(users: &Users, signal: usize, next: &mut usize) -> Places
+    requires { (signal < most_signals) × (next.old ≤ longest_bytes) }
+    ensures { (a : Accepted) → AreUsers a users.now → next.old ≡ total (size_of (its_table a)) signal → ArePlaces a signal result × (next.new ≡ total (size_of (its_table a)) (suc signal)) }
 {
-    if has(cell, right) {
-        return USE_BYTES * instances as usize;
-    }
-    0
-}
-
-// The records of all readers, or of all writers, from a place on.
-fn row_from(
-    tasks: Tasks,
-    h: u32,
-    grid: &[[u8; MOST_SIGNALS]; MOST_TASKS],
-    s: usize,
-    right: u8,
-    from: usize,
-) -> Row
-    requires { Fits (grid_table tasks grid.now) × (h ≡ hyper (grid_table tasks grid.now)) × (s < most_signals) × (1 ≤ right) × (from ≤ farthest) }
-    ensures { IsRow tasks grid.now s right from tasks.count result.at result.end }
-{
-    let mut at = [0; MOST_TASKS];
-    let mut end = from;
-    for k in 0..tasks.count {
-        at[k] = end + ELEMENT_AT;
-        end += records_of(grid[k][s], right, h / tasks.list[k].period);
-    }
-    Row { at, end }
-}
-
-// The places of signal s, whose records begin at `start`.
-pub fn places_at(
-    tasks: Tasks,
-    h: u32,
-    grid: &[[u8; MOST_SIGNALS]; MOST_TASKS],
-    s: usize,
-    start: usize,
-) -> Located
-    requires { Fits (grid_table tasks grid.now) × (h ≡ hyper (grid_table tasks grid.now)) × (s < most_signals) × (start ≡ total (size_of (grid_table tasks grid.now)) s) × (start ≤ longest_bytes) }
-    ensures { ArePlaces tasks grid.now s result.places × (result.end ≡ total (size_of (grid_table tasks grid.now)) (suc s)) }
-{
-    let written = row_from(tasks, h, grid, s, WRITE, start + BF_BYTES);
-    let read = row_from(tasks, h, grid, s, READ, written.end);
-    // The borrow checker does not cover a literal that takes an array's field straight: each goes through a variable.
-    let readers = read.at;
-    let writers = written.at;
-    let places = Places { readers, writers };
-    Located {
-        places,
-        end: read.end,
-    }
+    let mut at = *next + BF_BYTES + ELEMENT_AT;
+    let places = Places {
+        writers: users.starts::<USE_BYTES>(signal, Side::Writers, &mut at),
+        readers: users.starts::<USE_BYTES>(signal, Side::Readers, &mut at),
+    };
+    *next = at - ELEMENT_AT;
+    places
 }
 
 // Signal by signal, until one does not pass.
-pub fn signals_pass(
-    events: &[u32],
-    tasks: Tasks,
-    h: u32,
-    grid: &[[u8; MOST_SIGNALS]; MOST_TASKS],
-    signals: usize,
-    schedule: &[u8],
-) -> bool
-    requires { InspectsAll tasks grid.now h signals events.now schedule.now }
-    ensures { result ≡ all_swept tasks grid.now schedule.now signals }
+#[tactic(auto, using(form::proofs::Steps::total_none, crate::proofs::Placed::users_are, crate::proofs::Whole::start_low, crate::proofs::Whole::swept_none, crate::proofs::Whole::swept_more, crate::proofs::Whole::swept_fails))]
+pub fn signals_pass(events: &[u32], accepted: &Accepted, schedule: &[u8]) -> bool
+    requires { InspectsAll accepted.now events.now schedule.now }
+    ensures { result ≡ all_swept accepted.now schedule.now accepted.now.signals.count }
 {
-    let mut start: usize = 0;
-    for s in 0..signals {
-        let located = places_at(tasks, h, grid, s, start);
-        if !signal_passes(events, tasks, grid, s, located.places, schedule) {
+    let users = Users::new(accepted);
+    let mut next = 0;
+    for s in 0..accepted.signals.count {
+        let places = places_at(&users, s, &mut next);
+        if !signal_passes(events, accepted, s, places, schedule) {
             return false;
         }
-        start = located.end;
     }
     true
 }

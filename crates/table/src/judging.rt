@@ -1,4 +1,5 @@
-// Rules 7 to 11 in their order.
+// Rules 7 to 11 in their order. The tasks, the number of signals and the grid are one table for `timed` in specs/Forms; here they go one by one, since each
+// function takes those of them that its definition there names.
 ghost use Rattle.std.specs.Prelude.{◌≡◌, ◌<◌, ◌≤◌};
 ghost use Rattle.rules.specs.Windows as rules-windows;
 ghost use Rattle.rules.specs.Table.{most_signals, longest};

@@ -7,7 +7,8 @@ use sections::grid::read_grid;
 use sections::{read_accesses, read_end, read_signals, read_tasks};
 use windows::WindowedTasks;
 
-// What was read, before a refusal too, and the hyper-period of a table that is accepted, or the rule that broke.
+// What was read, and the hyper-period of a table that is accepted, or the rule that broke. A value beside a Result: `TableGives` says what was read before a
+// refusal too.
 #[derive(Clone, Copy)]
 pub struct TableRead {
     pub tasks: Tasks,

@@ -1,4 +1,5 @@
-// How many instances and uses a table has in a hyper-period.
+// How many instances and uses a table has in a hyper-period. The sums are loops: tried as `.map(..).sum()`, which leaves `sum-requires-clause-can` open, the
+// divisor, and `sum-requires-clause-fits`, the bound of the sum.
 ghost use Rattle.std.specs.Prelude.{◌≡◌, ◌<◌, ◌≤◌};
 ghost use Rattle.rules.specs.Table.{most_tasks, most_signals, longest};
 ghost use Rattle.table.specs.Forms.{instances_in, accesses_in, uses_in};

@@ -1,4 +1,5 @@
-// The lines of a listing, each with its line feed.
+// The lines of a listing, each with its line feed: a function for each, as each has a definition of its own in rules/specs/Listing.
+// One over (name, number) pairs would be no plainer: the names would stand at each call, and the tail of a line would be a loop.
 ghost use Rattle.std.specs.Prelude.{[], ◌∷◌};
 ghost use Rattle.rules.specs.Numbers.{told};
 ghost use Rattle.rules.specs.Listing.{named, hyper_line, signal_line, use_line, total_line, refused_line, text_of};
@@ -72,5 +73,6 @@ pub fn put_refused(page: &mut Page, answer: Answer)
     ensures { Puts (text_of (refused_line (told answer) ∷ [])) page.old page.new }
 {
     put_named(page, REFUSED, u64::from(answers::number(answer)));
+    // u64 has no From of usize, as wide as it is; `try_from` would add a case that never comes.
     put_last(page, PLACE, answers::place(answer) as u64);
 }

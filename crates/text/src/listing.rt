@@ -16,6 +16,7 @@ use plan::plan;
 use rules::EN_BYTES;
 use table::read_table;
 
+// The table is accepted, so that 0 never comes: `unwrap` would be no plainer, and ask for a proof that it does not panic.
 fn hyper_of(table: &[u8]) -> u32
     requires { (read_says table.now).number ≡ all_done }
     ensures { result ≡ hyper (table_in table.now) }
@@ -52,7 +53,8 @@ fn put_listed(table: &[u8], schedule: &mut [u8], page: &mut Page)
     }
 }
 
-// Put on the page after its first `at` bytes; gives back how many are in use then. The lent schedule is room to plan in.
+// Put on the page after its first `at` bytes; gives back how many are in use then. The lent schedule is room to plan in. A buffer and a number, since
+// `ListingGives` has them so.
 pub fn put_listing(table: &[u8], schedule: &mut [u8], out: &mut [u8], at: usize) -> usize
     ensures { ListingGives table.now schedule.old out.old at result schedule.new out.new }
 {

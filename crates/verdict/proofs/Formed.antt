@@ -37,13 +37,20 @@ module _ (a : Accepted) (bytes : List ℕ) (e : (form_says (its_table a) bytes).
   abbrev tab : Table
   tab = its_table a
 
-  pub form_counted : Counted tab (schedule_in tab bytes) × (schedule_length tab ≤ length bytes)
+  form_counted : Counted tab (schedule_in tab bytes) × (schedule_length tab ≤ length bytes)
   unfolding form_says schedule_length
   form_counted =
       let (r, b) = records_zero tab bytes (parts tab) _ e in
       let (c, d, f) = end_zero tab bytes _ b in
       let g = when_zero (ltb (room tab) (base (schedule_in tab bytes) tab.signals)) _ _ (λ z. omega arith) f in
       (right_counted tab bytes r (ltb-false (room tab) (base (schedule_in tab bytes) tab.signals) g.0), omega arith)
+
+  -- its records are counted, and its bytes reach to its end
+  pub counted : Counted tab (schedule_in tab bytes)
+  counted = form_counted.0
+
+  pub whole : schedule_length tab ≤ length bytes
+  whole = form_counted.1
 
   pub form_passed : Passes tab (schedule_in tab bytes) → check_says tab bytes ≡ tell all_done 0
   unfolding whole_says
@@ -69,9 +76,9 @@ module _ (a : Accepted) (bytes : List ℕ) (e : (form_says (its_table a) bytes).
   shared_says s q = ap (λ (f : Option ℕ). placed f shared (tell all_done 0)) (sym q) ∙ s shared (tell all_done 0)
 
   -- what the pass over all signals says is what the check says
-  pub pass_says : {r : Bool} → r ≡ all_swept a.tasks a.grid bytes a.signals.count → r ≡ eqb (check_says tab bytes).number all_done
+  pub pass_says : {r : Bool} → r ≡ all_swept a bytes a.signals.count → r ≡ eqb (check_says tab bytes).number all_done
   pass_says q =
-      let exact = accepts a.tasks a.signals a.grid bytes a.fits form_counted.0 in
+      let exact = accepts a bytes counted in
       agree
       (λ s. ap (λ (t : Told). eqb t.number all_done) (form_passed (exact.0 (sym q ∙ s))))
       (λ b. q ∙ exact.1 (check_sound tab bytes (eqb-true (check_says tab bytes).number all_done b)).1)

@@ -12,7 +12,7 @@ use lib.Dec.{leb, ltb}
 use borrow.Author.Tests.{le-leb, lt-leb, lt-ltb, le-ltb, ltb-true, ltb-false, leb-true, leb-false}
 use Rattle.rules.specs.Words.{when}
 use Rattle.rules.specs.Windows.{Table, closes}
-use Rattle.rules.specs.Table.{longest, windowed}
+use Rattle.rules.specs.Table.{longest, windowed, Fits}
 use Rattle.rules.specs.declared.Task.{Task}
 use Rattle.theory.proofs.Tests.{both3, and_is, split}
 use Rattle.windows.specs.Windowed.{Windowed}
@@ -39,6 +39,10 @@ module _ (task : Task) where
 
   pub period_pos : Windowed task → 0 < task.period
   period_pos w = let (a, b, c) = window w in omega arith
+
+-- each task of a table that is accepted has its window inside its period
+pub fits_window : (tab : Table) → Fits tab → (k : ℕ) → k < tab.tasks → Windowed (task_in tab k)
+fits_window tab F k h = windowed_is (task_in tab k) (F.window k h) (F.within k h) (F.short k h)
 
 -- the last multiple of p, moved on by o, that is at or before t
 module _ (p o t : ℕ) (pos : 0 < p) (le : o ≤ t) where

@@ -16,7 +16,8 @@ pub struct WindowedTasks {
     ghost windowed: { AllWindowed tasks },
 }
 
-// The last instance that closes at or before a tick.
+// The last instance that closes at or before a tick. This and `last_opened` differ in the instant and in whether it counts itself: one function for both would
+// be a third beside them, with a period above 0 in its `requires`, and each would still name its instant: no plainer.
 #[tactic(auto, using(crate::proofs::Windows::last))]
 pub fn last_closed(task: Task, tick: u32) -> Option<u32>
     requires { Windowed task }

@@ -5,4 +5,4 @@ use Rattle.loading.specs.Laid.{used_before, base_before, signal_laid, store_laid
 use Rattle.loading.proofs.load_signals.Given as goal
 
 abbrev pub invariant-loop-s : goal.invariant-loop-s
-invariant-loop-s l = (l.s ≤ l.signals) × (l.numbers ≡ up_to l.s (signal_laid l.source.grid.now l.source.counts.now l.source.schedule.now l.source.tasks) l.initial.numbers) × (l.store ≡ up_to l.s (store_laid l.source.grid.now l.source.counts.now l.source.schedule.now l.source.tasks l.defaults) l.initial.store) × (l.next.used ≡ used_before l.source.grid.now l.source.counts.now l.source.tasks l.s) × (l.next.base ≡ base_before l.source.grid.now l.source.counts.now l.source.schedule.now l.source.tasks l.s)
+invariant-loop-s l = (l.s ≤ l.signals) × (l.numbers ≡ up_to l.s (signal_laid l.source.users.now.grid.now l.source.users.now.instances l.source.schedule.now l.source.users.now.tasks) l.initial.numbers) × (l.store ≡ up_to l.s (store_laid l.source.users.now.grid.now l.source.users.now.instances l.source.schedule.now l.source.users.now.tasks l.source.defaults.now) l.initial.store) × (l.next.used ≡ used_before l.source.users.now.grid.now l.source.users.now.instances l.source.users.now.tasks l.s) × (l.next.base ≡ base_before l.source.users.now.grid.now l.source.users.now.instances l.source.schedule.now l.source.users.now.tasks l.s)

@@ -9,7 +9,7 @@ use Rattle.rules.specs.Reading.{Grid}
 use Rattle.accept.specs.Accepts.{its_table}
 use Rattle.accept.specs.declared.Accepted.{Accepted}
 use Rattle.form.specs.Records.{Instances}
-use Rattle.form.proofs.Parted.{ready}
+use Rattle.form.proofs.Parted.{by_periods}
 use Rattle.schedule.specs.Writing.{uses_below}
 use Rattle.schedule.proofs.Wrote.{length_by_uses, uses_is, written_is}
 use Rattle.schedule.proofs.write.Goals as goal
@@ -18,9 +18,9 @@ use Rattle.schedule.proofs.write.Goals as goal
 few : (a : Accepted) (instances : List ℕ) (n : ℕ) {g : Grid} {t : ℕ} → schedule_length (its_table a) ≤ n → Instances a.tasks a.hyper instances → g ≡ a.grid → t ≡ a.tasks.count
     → (uses_below g instances t a.signals.count ≤ most_uses) × (4 * a.signals.count + 7 * uses_below g instances t a.signals.count + 2 ≤ n)
 few a instances n room I p q =
-    let R = ready a.tasks a.signals a.grid a.hyper _ a.fits a.own refl in
-    let u = uses_is a.tasks a.signals a.grid a.hyper instances R.3 I _ refl in
-    let l = length_by_uses a.tasks a.signals a.grid a.hyper instances R.3 I _ refl in
+    let own = by_periods a.tasks a.signals a.grid a.own in
+    let u = uses_is a.tasks a.signals a.grid a.hyper instances own I _ refl in
+    let l = length_by_uses a.tasks a.signals a.grid a.hyper instances own I _ refl in
     rw (p, q) (omega (arith, a.fits.few_uses), omega arith)
 
 pub put_signals-used-requires : goal.put_signals-used-requires
@@ -42,6 +42,6 @@ put_bytes-requires c = let u = c.new-users.ensures in let a = c.args.accepted.no
 
 pub returns : goal.returns
 returns c = let u = c.new-users.ensures in let a = c.args.accepted.now in
-    let R = ready a.tasks a.signals a.grid a.hyper _ a.fits a.own refl in
-    written_is a.tasks a.signals _ _ _ R.3 u.instances _ refl _ _ _ _ _ _ u.grid u.tasks c.requires c.put_signals-used.ensures.is
+    let own = by_periods a.tasks a.signals a.grid a.own in
+    written_is a.tasks a.signals _ _ _ own u.instances _ refl _ _ _ _ _ _ u.grid u.tasks c.requires c.put_signals-used.ensures.is
     (ap (λ u. 4 * a.signals.count + 7 * u) c.put_signals-used.ensures.many) c.put_bytes.ensures

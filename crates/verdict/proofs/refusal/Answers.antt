@@ -1,17 +1,11 @@
 -- `verdict::refusal` meets its contract: 21 at the first fault of the readers, else 22 at that of the writers, else done.
 use mathlib.Core.Path.{◌∙◌}
 use Rattle.faults.proofs.Searched.{nowhere}
-use Rattle.verdict.proofs.Formed.{form_counted, wrong_says, shared_says}
+use Rattle.verdict.proofs.Formed.{wrong_says, shared_says}
 use Rattle.verdict.proofs.refusal.Goals as goal
-
-pub first_fault-requires : goal.first_fault-requires
-first_fault-requires c = (form_counted c.args.accepted.now _ c.requires).1
 
 pub returns-in-Some : goal.returns-in-Some
 returns-in-Some c = wrong_says c.args.accepted.now _ c.requires c.first_fault.ensures c.in-Some.is
-
-pub first_fault-requires-2 : goal.first_fault-requires-2
-first_fault-requires-2 c = (form_counted c.args.accepted.now _ c.requires).1
 
 pub returns-in-Some-first_fault : goal.returns-in-Some-first_fault
 returns-in-Some-first_fault c = let a = c.args.accepted.now in

@@ -9,11 +9,6 @@ returns-in_err-hyper c =
     let e = handed_on c.from_residual.result c.in_err-hyper.field-0.0 c.from_residual.ensures in
     rw e (refused_says _ c.read_table-read.result c.read_table-read.ensures c.in_err-hyper.was)
 
-pub invariant_of-result : goal.invariant_of-result
-invariant_of-result c =
-    let r = c.read_table-read in
-    record { fits = fits _ r.result r.ensures c.in_ok-hyper.was _ c.read_grid.ensures; own = own _ r.result r.ensures c.in_ok-hyper.was _ c.read_grid.ensures }
-
 pub returns : goal.returns
 returns c =
     let r = c.read_table-read in (
@@ -23,3 +18,8 @@ returns c =
       signals_are _ r.result r.ensures c.in_ok-hyper.was _ c.read_grid.ensures,
       c.read_grid.ensures,
     )
+
+pub invariant_of-result : goal.invariant_of-result
+invariant_of-result c =
+    let r = c.read_table-read in
+    record { fits = fits _ r.result r.ensures c.in_ok-hyper.was _ c.read_grid.ensures; own = own _ r.result r.ensures c.in_ok-hyper.was _ c.read_grid.ensures }

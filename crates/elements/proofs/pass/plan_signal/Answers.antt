@@ -8,19 +8,19 @@ use Rattle.elements.proofs.Signal.{after_none, after_all, counted, turns, after_
 use Rattle.elements.proofs.pass.plan_signal.Goals as goal
 
 pub loop-event-init : goal.loop-event-init
-loop-event-init c = let a = c.args in c.new-elements.ensures a.uses.now ∙ after_none a.tasks a.grid.now a.signal a.uses.now
+loop-event-init c = let a = c.args in c.new-elements.ensures a.uses.now ∙ after_none a.accepted.now a.signal a.uses.now
 
 pub turn-requires : goal.turn-requires
 turn-requires c = let a = c.args in
-    turns a.tasks a.grid.now a.signal a.events.now a.numbers c.requires c.loop-event.event-index (omega arith) _ _ c.reads.ensures c.writes.ensures
+    turns a.accepted.now a.signal a.events.now a.numbers c.requires c.loop-event.event-index (omega arith) c.task_in-k.ensures c.reads.ensures c.writes.ensures c.then_some-read.ensures c.then_some-write.ensures
 
 pub loop-event-preserved : goal.loop-event-preserved
 loop-event-preserved c = let a = c.args in
-    after_turn a.tasks a.grid.now a.signal a.events.now a.numbers c.requires c.loop-event.event-index (omega arith) a.uses.now _ _ _ _ c.reads.ensures c.writes.ensures c.loop-event.invariant c.turn.ensures
+    after_turn a.accepted.now a.signal a.events.now a.numbers c.requires c.loop-event.event-index (omega arith) c.task_in-k.ensures a.uses.now c.reads.ensures c.writes.ensures c.then_some-read.ensures c.then_some-write.ensures c.loop-event.invariant c.turn.ensures
 
 pub returns-clause-chosen : goal.returns-clause-chosen
 returns-clause-chosen c = let a = c.args in
     let l = c.loop-event in
     let all : l.event-index ≡ length a.events.now = omega arith in
-    let same = after_all a.tasks a.grid.now a.signal a.uses.now l.event-index (choice_of l.elements l.uses) (all ∙ counted a.tasks a.grid.now a.signal a.events.now a.numbers c.requires) l.invariant in
+    let same = after_all a.accepted.now a.signal a.uses.now l.event-index (choice_of l.elements l.uses) (all ∙ counted a.accepted.now a.signal a.events.now a.numbers c.requires) l.invariant in
     (ap (λ (x : Choice). x.count) same, ap (λ (x : Choice). x.uses) same)

@@ -4,13 +4,10 @@ use mathlib.Core.List.{[], ◌∷◌}
 use native.Mathlib.Omega.{arith}
 use Rattle.std.specs.Prelude.{Some}
 use Rattle.form.specs.Records.{use_of}
-use Rattle.form.proofs.Walks.{walked_none, walked_turn, walked_stopped}
+use Rattle.form.proofs.Walks.{walked_turn, walked_stopped}
 use Rattle.faults.proofs.Viewed.{has_each, place_is}
 use Rattle.faults.proofs.Searched.{one_passed, one_found, all_walked}
 use Rattle.faults.proofs.search.first_wrong_of.Goals as goal
-
-pub loop-instance-init : goal.loop-instance-init
-loop-instance-init g c = λ wrong J. walked_none _ _ _
 
 pub is_wrong-requires : goal.is_wrong-requires
 is_wrong-requires g c = c.requires.0 _ _ (has_each c.args.view.now c.args.side c.requires.1 c.records-records.ensures c.loop-instance-test.true)

@@ -1,6 +1,6 @@
 use Rattle.std.specs.Prelude.{Ok}
 use mathlib.Core.Path.{◌≡◌}
-use Rattle.form.specs.declared.sides.Side.{Side}
+use Rattle.rules.specs.declared.Side.{Side}
 use Rattle.form.specs.Records.{mark_of, instance_parts}
 use Rattle.form.specs.Form.{walked, step}
 use Rattle.form.proofs.forms.instance_records.Given as goal

@@ -3,4 +3,4 @@ use Rattle.lives.specs.Values.{lives_below, Held}
 use Rattle.lives.proofs.values.values_of.Given as goal
 
 abbrev pub invariant-loop-event : goal.invariant-loop-event
-invariant-loop-event l = Held (lives_below l.accepted.tasks l.accepted.grid l.signal l.accepted.hyper l.turns l.event-index) l.held l.values l.count
+invariant-loop-event l = Held (lives_below l.accepted l.signal l.turns l.event-index) l.held l.values l.count

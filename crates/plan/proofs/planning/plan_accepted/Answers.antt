@@ -2,7 +2,7 @@
 use mathlib.Core.List.{◌++◌}
 use mathlib.Core.Path.{ap, ◌∙◌}
 use native.Mathlib.Omega.{arith}
-use lib.ListN.{drop, length, length-take}
+use lib.ListN.{drop, length-take}
 use Rattle.rules.specs.Numbers.{tell}
 use Rattle.rules.specs.Bytes.{schedule_length}
 use Rattle.rules.specs.Reading.{table_of}

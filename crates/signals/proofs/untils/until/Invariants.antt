@@ -6,4 +6,4 @@ use Rattle.signals.specs.Forms.{reach_below}
 use Rattle.signals.proofs.untils.until.Given as goal
 
 abbrev pub invariant-loop-k : goal.invariant-loop-k
-invariant-loop-k l = (l.reached ≡ reach_below l.tasks (reads_in l.grid l.signal) l.published l.next l.k) × (l.next ≤ longest)
+invariant-loop-k l = (l.reached ≡ reach_below l.windowed.tasks (reads_in l.grid l.signal) l.published l.next l.k) × (l.next ≤ longest)

@@ -1,7 +1,7 @@
 -- `untils::Untils::apart_from_earlier` meets its contract: no earlier task, and no earlier instance, clashes.
 use Rattle.std.proofs.Common.{◌≡◌, ℕ, Bool, true, false, refl, sym, rules, tests, arith}
 use Rattle.std.proofs.lemmas.Iterator.{cases_from_all, YieldsList-from_range}
-use Rattle.form.specs.declared.sides.Side.{Side}
+use Rattle.rules.specs.declared.Side.{Side}
 use Rattle.faults.specs.Faults.{view_table, view_schedule, apart_from_task}
 use Rattle.faults.proofs.Viewed.{has_of, has_below}
 use Rattle.faults.proofs.Clashing.{every_below, apart_is, earlier_fails, earlier_holds}

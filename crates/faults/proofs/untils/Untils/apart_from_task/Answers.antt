@@ -1,7 +1,7 @@
 -- `untils::Untils::apart_from_task` meets its contract.
 use mathlib.Core.Path.{sym}
 use native.Mathlib.Omega.{arith}
-use Rattle.form.specs.declared.sides.Side.{Side}
+use Rattle.rules.specs.declared.Side.{Side}
 use Rattle.faults.proofs.Viewed.{has_each}
 use Rattle.faults.proofs.Clashing.{apart_is}
 use Rattle.faults.proofs.Numbered.{writers_asked, in_reach}

@@ -1,14 +1,9 @@
 -- `view::View::bound_element` meets its contract: the carried value's element, or that of the WI of the value found.
 use mathlib.Core.Path.{◌∙◌}
 use native.Mathlib.Omega.{arith}
-use Rattle.form.specs.declared.sides.Side.{Side}
-use Rattle.faults.proofs.Viewed.{view_ready, place_is, written_is, bound_carried, bound_written}
+use Rattle.rules.specs.declared.Side.{Side}
+use Rattle.faults.proofs.Viewed.{place_is, written_is, bound_carried, bound_written}
 use Rattle.faults.proofs.view.View.bound_element.Goals as goal
-
-pub binding_at-value-requires : goal.binding_at-value-requires
-binding_at-value-requires c = let v = c.args.self.now in
-    let R = view_ready v in
-    (R.0, omega (arith, R.2, v.listed), R.1)
 
 pub returns-then-task-eq-CARRIED : goal.returns-then-task-eq-CARRIED
 returns-then-task-eq-CARRIED c = bound_carried c.args.self.now _ c.requires c.binding_at-value.ensures c.if-task-eq-CARRIED.true

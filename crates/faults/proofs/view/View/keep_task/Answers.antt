@@ -1,6 +1,6 @@
 -- `view::View::keep_task` meets its contract: the values of the earlier tasks and of the instances below this one are kept.
 use native.Mathlib.Omega.{arith}
-use Rattle.form.specs.declared.sides.Side.{Side}
+use Rattle.rules.specs.declared.Side.{Side}
 use Rattle.faults.proofs.Viewed.{has_each}
 use Rattle.faults.proofs.Numbered.{writers_asked, number_is, room, numbers_more, kept_more, kept_at}
 use Rattle.faults.proofs.view.View.keep_task.Goals as goal

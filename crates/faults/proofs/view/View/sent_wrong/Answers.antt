@@ -3,7 +3,7 @@ use mathlib.Core.Path.{ap₂, ◌∙◌}
 use mathlib.Core.Bool.{not}
 use native.Mathlib.Omega.{arith}
 use lib.Dec.{eqb}
-use Rattle.form.specs.declared.sides.Side.{Side}
+use Rattle.rules.specs.declared.Side.{Side}
 use Rattle.faults.proofs.Viewed.{place_is, read_is}
 use Rattle.faults.proofs.view.View.sent_wrong.Goals as goal
 
