@@ -46,9 +46,9 @@ apart_same values others held {r} {n} {m} e q f = sym (e ∙ every_same n _ _ (�
 
 -- those of task k, from what is kept
 pub apart_is : (u : Untils) (k : ℕ) → k < u.view.accepted.now.tasks.count → {w : Writer} → w ≡ writer_of u.view k → (held : Held) {r : Bool} {n m : ℕ} → n ≤ view_records u.view Side.Writers k → n ≡ m
-    → r ≡ apart_from (held_at w u.ticks u.view.schedule.now) held n → apart_from (λ j. held_of (view_table u.view) (view_schedule u.view) (by u.view.signal k j)) held m ≡ r
+    → r ≡ apart_from (held_at w u.ticks.now u.view.schedule.now) held n → apart_from (λ j. held_of (view_table u.view) (view_schedule u.view) (by u.view.signal k j)) held m ≡ r
 apart_is u k h {w} e held l q a =
-    apart_same (held_at w u.ticks u.view.schedule.now) (λ j. held_of (view_table u.view) (view_schedule u.view) (by u.view.signal k j)) held a q (λ i m. value_is u.view k e u.ticks u.kept i (has_of u.view Side.Writers k i h l m))
+    apart_same (held_at w u.ticks.now u.view.schedule.now) (λ j. held_of (view_table u.view) (view_schedule u.view) (by u.view.signal k j)) held a q (λ i m. value_is u.view k e u.ticks.now u.kept i (has_of u.view Side.Writers k i h l m))
 
 -- the earlier tasks, then the earlier instances of the same task
 module _ (tab : Table) (grid : Grid) (E : Schedule) (s : ℕ) (held : Held) (k i : ℕ) {e : Bool} (h : e ≡ every k (apart_from_task tab grid E s held)) where
@@ -128,7 +128,7 @@ module _ (u : Untils) (k i : ℕ) (H : Has u.view Side.Writers k i) where
   unfolding same
   sharing_is = ap₂ (λ (a b : Bool). a || not b) (clash_is tab E (carried s) (by s k i) refl) earlier_is
 
-  module _ {held first : Held} {b : Bool} (e : held ≡ own) (f : first ≡ carried_in u.ticks) (q : b ≡ clashing first held) where
+  module _ {held first : Held} {b : Bool} (e : held ≡ own) (f : first ≡ carried_in u.ticks.now) (q : b ≡ clashing first held) where
     carried_said : b ≡ clashing (held_of tab E (carried s)) own
     carried_said = q ∙ ap₂ clashing (f ∙ held_is 0 refl u.kept.first) e
 

@@ -8,6 +8,6 @@ use Rattle.faults.proofs.untils.Untils.apart_from.Goals as goal
 pub returns : goal.returns
 unfolding apart_from
 returns c =
-    let p : ℕ → Bool = λ i. not (clashing (held_at c.args.writer c.args.self.now.ticks c.args.self.now.view.schedule.now i) c.args.held) in
+    let p : ℕ → Bool = λ i. not (clashing (held_at c.args.writer c.args.self.now.ticks.now c.args.self.now.view.schedule.now i) c.args.held) in
     every_below _ c.args.records p
     (cases_from_all _ _ _ (λ i. p i ≡ true) (λ i. p i ≡ false) c.all.ensures.ran (YieldsList-from_range 0 c.args.records c.args.records refl (omega arith)) (λ x q k. search (rules, tests)) (λ x q k. search (rules, tests)))
