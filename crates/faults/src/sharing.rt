@@ -47,12 +47,17 @@ impl<'a, 't> Untils<'a, 't> {
         }
     }
 
-    // No value of the writer's first `records` instances clashes with this one.
+    // No value of the writer's first `records` instances clashes with this one. A loop, since `all` took 12 instructions a pair in place of 7.
     fn apart_from(&self, writer: Writer, records: u32, held: Held) -> bool
         requires { (i : ℕ) → i < records → InReach writer self.now.view.schedule.now i }
         ensures { result ≡ apart_from (held_at writer self.now.ticks.now self.now.view.schedule.now) held records }
     {
-        (0..records).all(|instance| !clashes(self.written(writer, instance), held))
+        for instance in 0..records {
+            if clashes(self.written(writer, instance), held) {
+                return false;
+            }
+        }
+        true
     }
 
     // No value that the task writes clashes with this one.
