@@ -4,7 +4,7 @@ ghost use Rattle.console.specs.Shown.{Puts};
 ghost use Rattle.console.specs.Digits.{digit_of, number_of, is_hex, half_of, pair_of, bytes_of};
 
 use crate::bases::{SIXTEEN, TEN, WIDE};
-use crate::page::Page;
+use crate::page::{Page, put_at};
 
 const NO_BYTES: &[u8] = b"-";
 
@@ -55,7 +55,9 @@ fn pair(high: u8, low: u8) -> u8
 pub fn put_bytes(page: &mut Page, word: &[u8])
     ensures { Puts (bytes_of word.now) page.old page.new }
 {
+    let mut used = page.used;
     for digits in word.chunks_exact(2) {
-        page.put(pair(digits[0], digits[1]));
+        used = put_at(page.bytes, used, pair(digits[0], digits[1]));
     }
+    page.used = used;
 }

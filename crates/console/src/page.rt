@@ -4,7 +4,7 @@ ghost use Rattle.std.specs.Prelude.{◌≡◌, ◌<◌, [], ◌∷◌, take};
 ghost use Rattle.std.specs.List.{flat_map};
 ghost use Rattle.rules.specs.Listing.{figures, decimal_of};
 ghost use Rattle.console.specs.Shown.{Puts};
-ghost use Rattle.console.specs.Page.{glyph_of, pair_text, hex_of};
+ghost use Rattle.console.specs.Page.{page, put_one, put_all, glyph_of, pair_text, hex_of};
 
 use crate::bases::{SIXTEEN, TEN, WIDE};
 
@@ -45,50 +45,24 @@ impl<'a> Page<'a> {
     pub fn put(&mut self, b: u8)
         ensures { Puts (b ∷ []) self.old self.new }
     {
-        if self.used < self.bytes.len() {
-            self.bytes[self.used] = b;
-            self.used += 1;
-        }
+        self.used = put_at(self.bytes, self.used, b);
     }
 
-    // One by one, and not by `copy_from_slice`: what does not fit is left out, and `put` says so once.
+    // One by one, and not by `copy_from_slice`: what does not fit is left out, and `put_at` says so once.
     pub fn put_all(&mut self, bytes: &[u8])
         ensures { Puts bytes.now self.old self.new }
     {
+        let mut used = self.used;
         for b in bytes {
-            self.put(*b);
+            used = put_at(self.bytes, used, *b);
         }
-    }
-
-    // The front figures come first, so each call leaves them to one with a tenth of the number.
-    // A loop would be no plainer: it meets the last figure first, and would need a buffer to turn them round in. No Display: `fmt` says of a number that
-    // it is written, and `decimal_of`, which the listing's contract names, says which characters. The casts are proved to keep one figure.
-    fn put_figures(&mut self, n: u64, most: usize)
-        ensures { Puts (figures most n) self.old self.new }
-    {
-        if most == 0 {
-            return;
-        }
-        if n < WIDE {
-            self.put(glyph(n as u8));
-            return;
-        }
-        self.put_figures(n / WIDE, most - 1);
-        self.put(glyph((n % WIDE) as u8));
+        self.used = used;
     }
 
     pub fn put_decimal(&mut self, n: u64)
         ensures { Puts (decimal_of n) self.old self.new }
     {
-        self.put_figures(n, MOST_FIGURES);
-    }
-
-    // Both digits of a byte.
-    fn put_pair(&mut self, b: u8)
-        ensures { Puts (pair_text b) self.old self.new }
-    {
-        self.put(glyph(b / SIXTEEN));
-        self.put(glyph(b % SIXTEEN));
+        self.used = put_figures(self.bytes, self.used, n, MOST_FIGURES);
     }
 
     // Bytes in hex, `-` for none.
@@ -99,10 +73,48 @@ impl<'a> Page<'a> {
             self.put(DASH);
             return;
         }
+        let mut used = self.used;
         for b in bytes {
-            self.put_pair(*b);
+            used = put_pair(self.bytes, used, *b);
         }
+        self.used = used;
     }
+}
+
+// One byte more after the first `at`, where there is room; gives back how many are in use then. A number beside the buffer, and no method: in a page the
+// number lies in memory, and each byte would wait for the one before it.
+pub(crate) fn put_at(out: &mut [u8], at: usize, b: u8) -> usize
+    ensures { page out.new result ≡ put_one b (page out.old at) }
+{
+    if at < out.len() {
+        out[at] = b;
+        return at + 1;
+    }
+    at
+}
+
+// The front figures come first, so each call leaves them to one with a tenth of the number.
+// A loop would be no plainer: it meets the last figure first, and would need a buffer to turn them round in. No Display: `fmt` says of a number that
+// it is written, and `decimal_of`, which the listing's contract names, says which characters. The casts are proved to keep one figure.
+fn put_figures(out: &mut [u8], at: usize, n: u64, most: usize) -> usize
+    ensures { page out.new result ≡ put_all (figures most n) (page out.old at) }
+{
+    if most == 0 {
+        return at;
+    }
+    if n < WIDE {
+        return put_at(out, at, glyph(n as u8));
+    }
+    let end = put_figures(out, at, n / WIDE, most - 1);
+    put_at(out, end, glyph((n % WIDE) as u8))
+}
+
+// Both digits of a byte.
+fn put_pair(out: &mut [u8], at: usize, b: u8) -> usize
+    ensures { page out.new result ≡ put_all (pair_text b) (page out.old at) }
+{
+    let end = put_at(out, at, glyph(b / SIXTEEN));
+    put_at(out, end, glyph(b % SIXTEEN))
 }
 
 // The digit `d` as a character.

@@ -13,7 +13,7 @@ use Rattle.rules.specs.Table.{longest, Fits}
 use Rattle.rules.specs.Reading.{Grid, task_of, writes_in, reads_in, no_signals}
 use Rattle.rules.specs.declared.Tasks.{Tasks}
 use Rattle.theory.specs.Sweep.{task_in, tick_in, is_opening, events, through, acted}
-use Rattle.std.specs.Prelude.{Option, Some, None, is_some, unwrap_or}
+use Rattle.std.specs.Prelude.{Option, Some, is_some, unwrap_or}
 use Rattle.std.specs.Bool.{then_some}
 use Rattle.rules.specs.declared.Task.{Task}
 use Rattle.theory.specs.Chosen.{Choice, choose, unchosen, chosen, sent, taken}

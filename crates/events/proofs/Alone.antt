@@ -1,18 +1,20 @@
 -- The openings and closings of every table with these tasks are those of the tasks alone. Assumes nothing.
 use mathlib.Core.Path.{◌≡◌, refl, ◌∙◌}
-use Prim.Native.Nat.{◌*◌, ◌≤◌, zero-le}
+use Prim.Native.Nat.{◌+◌, ◌*◌, ◌≤◌, zero-le}
 use native.Mathlib.Nat.{not-suc-le-zero, zero-mul}
 use native.Mathlib.Omega.{arith}
+use lib.ListN.{length}
 use Rattle.rules.specs.Words.{total}
-use Rattle.rules.specs.Windows.{hyper, instances}
-use Rattle.rules.specs.Table.{accesses_of, accesses, uses, most_accesses, most_uses, Fits}
+use Rattle.rules.specs.Windows.{Table, hyper, instances}
+use Rattle.rules.specs.Table.{accesses_of, accesses, uses, most_tasks, most_accesses, most_uses, Fits}
 use Rattle.rules.specs.Reading.{Grid, table_of, no_signals, no_grid}
 use Rattle.rules.specs.declared.Tasks.{Tasks}
 use Rattle.rules.specs.declared.Signals.{Signals}
 use Rattle.theory.specs.Sweep.{events}
 use Rattle.theory.proofs.Sums.{total_none, total_same}
+use Rattle.theory.proofs.Events.{events_up, events_all, few_events}
 use Rattle.accept.specs.declared.Accepted.{Accepted}
-use Rattle.events.specs.Order.{tasks_table}
+use Rattle.events.specs.Order.{tasks_table, most_events}
 
 -- without signals there is no access, whatever the grid
 no_accesses : (tasks : Tasks) (grid : Grid) → accesses (table_of tasks no_signals grid) ≤ most_accesses
@@ -56,3 +58,7 @@ module _ (a : Accepted) where
 
   pub hyper_tasks : a.hyper ≡ hyper (tasks_table a.tasks)
   hyper_tasks = a.own ∙ hyper_alone a.tasks a.signals a.grid
+
+-- an accepted table has no more openings and closings than there are places
+pub few : (tab : Table) → Fits tab → length (events tab) ≤ most_events
+few tab F = omega (arith, few_events tab F most_tasks (most_tasks + hyper tab * (2 * most_tasks)) (events tab) (events_up tab F) (events_all tab F), F.few_instances)

@@ -1,2 +1,3 @@
 pub mod Merged
 pub mod Alone
+pub mod Lesser

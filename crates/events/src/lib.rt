@@ -88,12 +88,14 @@ fn following(task: Task, event: u32) -> u32
     }
 }
 
-// The task that is next.
+// The task that is next. By `min_by`: beside a key that `min_by_key` keeps, each comparison would wait for the one before it.
 fn least(next: &[u32; MOST_TASKS], count: usize) -> usize
     requires { (1 ≤ count) × (count ≤ most_tasks) }
     ensures { Leads next.now count result }
 {
-    (0..count).min_by_key(|k| next[*k]).unwrap_or(0)
+    (0..count)
+        .min_by(|j, k| next[*j].cmp(&next[*k]))
+        .unwrap_or(0)
 }
 
 // Task by task the next one is taken, until the hyper-period ends. It is a loop, since it merges: each turn changes what the next one takes the least of.

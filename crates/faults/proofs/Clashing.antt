@@ -33,22 +33,32 @@ use Rattle.faults.proofs.Numbered.{value_is}
 every_same : (n : ℕ) (p q : ℕ → Bool) → ((k : ℕ) → k < n → p k ≡ q k) → every n p ≡ every n q
 every_same n p q f = agree (λ e. every_is n q (λ k h. sym (f k h) ∙ every_at n p e k h)) (λ e. every_is n p (λ k h. f k h ∙ every_at n q e k h))
 
+pub every_fails : (n k : ℕ) (p : ℕ → Bool) → k < n → p k ≡ false → false ≡ every n p
+every_fails n k p h e = sym (no_test (every n p) (λ a. not_both (every_at n p a k h) e))
+
+pub every_holds : (n : ℕ) (p : ℕ → Bool) → ((k : ℕ) → k < n → p k ≡ true) → true ≡ every n p
+every_holds n p h = sym (every_is n p h)
+
 -- a chain that asks a test of each number below n
 pub every_below : (r : Bool) (n : ℕ) (p : ℕ → Bool)
     → MatchBool r (AllWithin (λ i. p i ≡ true) (range_with_len 0 n) 0 (length (range_with_len 0 n))) ((k : ℕ) × (k < length (range_with_len 0 n)) × HoldsAt (λ i. p i ≡ false) (range_with_len 0 n) k) → r ≡ every n p
-every_below true n p h = sym (every_is n p (λ k l. rw (get_or-range_with_len 0 n k 0 l, zero-add) at (h k 0 (omega arith) (omega (arith, length-range_with_len 0 n)))))
-every_below false n p (k, l, h) = let m : k < n = omega (arith, length-range_with_len 0 n) in sym (no_test (every n p) (λ a. not_both (every_at n p a k m) (rw (get_or-range_with_len 0 n k 0 m, zero-add) at (h 0))))
+every_below true n p h = every_holds n p (λ k l. rw (get_or-range_with_len 0 n k 0 l, zero-add) at (h k 0 (omega arith) (omega (arith, length-range_with_len 0 n))))
+every_below false n p (k, l, h) = let m : k < n = omega (arith, length-range_with_len 0 n) in every_fails n k p m (rw (get_or-range_with_len 0 n k 0 m, zero-add) at (h 0))
 
 -- the same values
 apart_same : (values others : ℕ → Held) (held : Held) {r : Bool} {n m : ℕ} → r ≡ apart_from values held n → n ≡ m → ((i : ℕ) → i < n → values i ≡ others i) → apart_from others held m ≡ r
 unfolding apart_from
 apart_same values others held {r} {n} {m} e q f = sym (e ∙ every_same n _ _ (λ i h. ap (λ (v : Held). not (clashing v held)) (f i h)) ∙ ap (apart_from others held) q)
 
+-- whether one value clashes, by the code's two steps
+pub same_clash : {r : Bool} {a b : Held} (held : Held) → r ≡ clashing a held → a ≡ b → clashing b held ≡ r
+same_clash held e q = sym (e ∙ ap (λ (h : Held). clashing h held) q)
+
 -- those of task k, from what is kept
 pub apart_is : (u : Untils) (k : ℕ) → k < u.view.accepted.now.tasks.count → {w : Writer} → w ≡ writer_of u.view k → (held : Held) {r : Bool} {n m : ℕ} → n ≤ view_records u.view Side.Writers k → n ≡ m
-    → r ≡ apart_from (held_at w u.ticks u.view.schedule.now) held n → apart_from (λ j. held_of (view_table u.view) (view_schedule u.view) (by u.view.signal k j)) held m ≡ r
+    → r ≡ apart_from (held_at w u.ticks.now u.view.schedule.now) held n → apart_from (λ j. held_of (view_table u.view) (view_schedule u.view) (by u.view.signal k j)) held m ≡ r
 apart_is u k h {w} e held l q a =
-    apart_same (held_at w u.ticks u.view.schedule.now) (λ j. held_of (view_table u.view) (view_schedule u.view) (by u.view.signal k j)) held a q (λ i m. value_is u.view k e u.ticks u.kept i (has_of u.view Side.Writers k i h l m))
+    apart_same (held_at w u.ticks.now u.view.schedule.now) (λ j. held_of (view_table u.view) (view_schedule u.view) (by u.view.signal k j)) held a q (λ i m. value_is u.view k e u.ticks.now u.kept i (has_of u.view Side.Writers k i h l m))
 
 -- the earlier tasks, then the earlier instances of the same task
 module _ (tab : Table) (grid : Grid) (E : Schedule) (s : ℕ) (held : Held) (k i : ℕ) {e : Bool} (h : e ≡ every k (apart_from_task tab grid E s held)) where
@@ -128,7 +138,7 @@ module _ (u : Untils) (k i : ℕ) (H : Has u.view Side.Writers k i) where
   unfolding same
   sharing_is = ap₂ (λ (a b : Bool). a || not b) (clash_is tab E (carried s) (by s k i) refl) earlier_is
 
-  module _ {held first : Held} {b : Bool} (e : held ≡ own) (f : first ≡ carried_in u.ticks) (q : b ≡ clashing first held) where
+  module _ {held first : Held} {b : Bool} (e : held ≡ own) (f : first ≡ carried_in u.ticks.now) (q : b ≡ clashing first held) where
     carried_said : b ≡ clashing (held_of tab E (carried s)) own
     carried_said = q ∙ ap₂ clashing (f ∙ held_is 0 refl u.kept.first) e
 

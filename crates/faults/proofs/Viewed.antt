@@ -25,7 +25,6 @@ use Rattle.accept.specs.declared.Accepted.{Accepted}
 use Rattle.rules.specs.declared.Side.{Side}
 use Rattle.form.specs.Records.{permits, use_of, users_of}
 use Rattle.form.proofs.Steps.{users_few}
-use Rattle.form.proofs.Parted.{by_periods}
 use Rattle.sweep.specs.Pass.{element_at, longest_bytes}
 use Rattle.sweep.proofs.Inspected.{total_within, writer_step, reader_step, writer_inside, reader_inside}
 use Rattle.faults.specs.declared.view.View.{View}

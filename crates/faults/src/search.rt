@@ -15,7 +15,7 @@ use crate::untils::Untils;
 use crate::view::View;
 use accept::Accepted;
 use form::Users;
-use rules::{ELEMENT_AT, Side, USE_BYTES};
+use rules::{ELEMENT_AT, MOST_VALUES, Side, USE_BYTES};
 use sweep::places_at;
 
 // Where the first wrong record starts: Side::Readers for 21, Side::Writers for 22.
@@ -50,7 +50,12 @@ fn signal_fault(view: &View, side: Side) -> Option<usize>
             view.sent_wrong(task, instance)
         }),
         Side::Writers => {
-            let untils = Untils::new(view);
+            let mut ticks = [0; MOST_VALUES];
+            view.keep_all(&mut ticks);
+            let untils = Untils {
+                view: *view,
+                ticks: &ticks,
+            };
             first_wrong(view, side, |task, instance| untils.shares(task, instance))
         }
     }

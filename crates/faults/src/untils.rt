@@ -21,29 +21,25 @@ pub struct Writer {
     pub start: u32,
 }
 
-// What is at hand for a signal, and the ends of the lives of its values.
+// What is at hand for a signal, and the ends of the lives of its values, which are lent: a copy would double the stack that a refusal takes.
 #[derive(Clone, Copy)]
-pub struct Untils<'a> {
+pub struct Untils<'a, 't> {
     pub view: View<'a>,
-    pub ticks: [u32; MOST_VALUES],
-    pub ghost kept: { Kept view ticks },
-}
-
-impl<'a> Untils<'a> {
-    // The carried value's, and those of all tasks.
-    pub fn new(view: &View<'a>) -> Untils<'a>
-        ensures { result.view ≡ view.now }
-    {
-        let mut ticks = [0; MOST_VALUES];
-        ticks[CARRIED_AT] = view.live_until(0);
-        for task in 0..view.accepted.tasks.count {
-            view.keep_task(task, &mut ticks);
-        }
-        Untils { view: *view, ticks }
-    }
+    pub ticks: &'t [u32; MOST_VALUES],
+    pub ghost kept: { Kept view ticks.now },
 }
 
 impl<'a> View<'a> {
+    // The carried value's, and those of all tasks.
+    pub fn keep_all(&self, ticks: &mut [u32; MOST_VALUES])
+        ensures { Kept self.now ticks.new }
+    {
+        ticks[CARRIED_AT] = self.live_until(0);
+        for task in 0..self.accepted.tasks.count {
+            self.keep_task(task, ticks);
+        }
+    }
+
     pub fn writer(&self, task: usize) -> Writer
         requires { (task < most_tasks) × (get_or self.now.places.writers 0 0 ≤ get_or self.now.places.writers task 0) }
         ensures { result ≡ writer_of self.now task }

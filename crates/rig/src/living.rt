@@ -1,4 +1,6 @@
 // `live SIGNAL LEN`: the live list of a signal of the kept table, filled into a lent list of records.
+ghost use Rattle.std.specs.Prelude.{◌≡◌};
+
 use crate::bench::Bench;
 use crate::tell::{bad_line, end_of_answer, put_answer, put_part};
 use console::page::Page;
@@ -25,17 +27,23 @@ fn put_value(page: &mut Page, value: &LiveValue) {
     put_part(page, DOT, u64::from(value.element));
 }
 
+fn put_values(page: &mut Page, values: &[LiveValue]) {
+    for value in values {
+        put_value(page, value);
+    }
+}
+
 impl<'a> Bench<'a> {
     // The whole lent list is shown, so that a record that should have stayed is seen.
-    pub(crate) fn live_kept(&mut self, signal: usize, len: usize) {
+    pub(crate) fn live_kept(&mut self, signal: usize, len: usize)
+        ensures { self.new.kept ≡ self.old.kept }
+    {
         if MOST_LENT < len {
             return bad_line(&mut self.out);
         }
         let lived = lent(self.kept.text(), signal, len, UNTOUCHED);
         put_answer(&mut self.out, lived.answer);
-        for value in &lived.values[..len] {
-            put_value(&mut self.out, value);
-        }
+        put_values(&mut self.out, &lived.values[..len]);
         end_of_answer(&mut self.out);
     }
 }

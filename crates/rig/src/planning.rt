@@ -1,4 +1,6 @@
 // `plan LEN` and `list`: the kept table planned into a lent buffer, and its listing.
+ghost use Rattle.std.specs.Prelude.{◌≡◌};
+
 use crate::bench::Bench;
 use crate::tell::{bad_line, end_of_answer, put_answer};
 use console::page::Page;
@@ -25,14 +27,18 @@ fn list_into(table: &[u8], lent: &mut [u8], out: &mut Page) {
 }
 
 impl<'a> Bench<'a> {
-    pub(crate) fn plan_kept(&mut self, len: usize) {
+    pub(crate) fn plan_kept(&mut self, len: usize)
+        ensures { self.new.kept ≡ self.old.kept }
+    {
         if self.lent.len() < len {
             return bad_line(&mut self.out);
         }
         plan_into(self.kept.text(), &mut self.lent[..len], &mut self.out);
     }
 
-    pub(crate) fn list_kept(&mut self) {
+    pub(crate) fn list_kept(&mut self)
+        ensures { self.new.kept ≡ self.old.kept }
+    {
         list_into(self.kept.text(), self.lent, &mut self.out);
     }
 }

@@ -1,3 +1,4 @@
 pub mod Few
 pub mod Sectioned
+pub mod Taken
 pub mod Windowed

@@ -26,13 +26,13 @@ abbrev pub Windowed : Tasks → Type 0
 Windowed b = (k : ℕ) → k < b.count → fits (task_of b k) ≡ true
 
 -- what a task that is taken has passed
-record TaskTaken (count : ℕ) (t : Task) : Type 0 where
+pub record TaskTaken (count : ℕ) (t : Task) : Type 0 where
   pub few : count < most_tasks
   pub window : windowed t.period t.start t.end ≡ true
 
-task_taken : (bytes : List ℕ) (count p : ℕ) → Only (TaskTaken count) (task_at bytes count p)
+pub only_windowed : (bytes : List ℕ) (count p : ℕ) → Only (TaskTaken count) (task_at bytes count p)
 unfolding task_at when
-task_taken bytes count p = grind arith
+only_windowed bytes count p = grind arith
 
 record Fitting (b : Tasks) : Type 0 where
   pub room : length b.list ≡ most_tasks
@@ -57,7 +57,7 @@ put b t taken h = record {
 pub tasks_windowed : (bytes : List ℕ) → Windowed (tasks_in bytes).read
 unfolding tasks_in
 tasks_windowed bytes =
-    (kept Fitting (λ b. task_at bytes b.count) put_task (λ b p h. only (λ t taken. put b t taken h) (task_at bytes b.count p) (task_taken bytes b.count p))
+    (kept Fitting (λ b. task_at bytes b.count) put_task (λ b p h. only (λ t taken. put b t taken h) (task_at bytes b.count p) (only_windowed bytes b.count p))
     (most_tasks + 1) no_tasks 0 (record { room = refl; windows = λ k l. absurd (omega (arith, l)) })
     ).windows
 

@@ -19,12 +19,13 @@ use Rattle.std.proofs.Math.Seq.{take-append_seam}
 use Rattle.accept.specs.Accepts.{its_table}
 use Rattle.accept.specs.declared.Accepted.{Accepted}
 use Rattle.sweep.specs.Pass.{all_swept, InspectsAll}
+use Rattle.sweep.proofs.Whole.{own_all}
 
 module _ (a : Accepted) (bytes : List ℕ) (C : Counted (its_table a) (schedule_in (its_table a) bytes)) where
   abbrev tab : Table
   tab = its_table a
 
-  pub accepts : (all_swept a bytes a.signals.count ≡ true) ↔ Passes tab (schedule_in tab bytes)
+  pub accepts : (all_swept tab bytes a.signals.count ≡ true) ↔ Passes tab (schedule_in tab bytes)
   unfolding all_swept
   accepts = let exact = sweeps_exact tab a.fits (schedule_in tab bytes) C in (
     (λ q. exact.0 (every_at a.signals.count _ q)),
@@ -32,10 +33,10 @@ module _ (a : Accepted) (bytes : List ℕ) (C : Counted (its_table a) (schedule_
   )
 
   -- what the check asks for is what right records give
-  pub inspects_all : schedule_length tab ≤ length bytes → {turns : Events} → turns ≡ ordered (tasks_table a.tasks) → InspectsAll a (take turns.count turns.list) bytes
+  pub inspects_all : schedule_length tab ≤ length bytes → {turns : Events} → turns ≡ ordered (tasks_table a.tasks) → InspectsAll a a.signals.count (take turns.count turns.list) bytes
   unfolding schedule_length
-  inspects_all w l = record {
-    listed = ap (λ (o : Events). take o.count o.list) l ∙ take-append_seam (events (tasks_table a.tasks)) _;
-    whole = omega arith;
-    low = λ s y k i h t m. omega (arith, C.below (by s k i) (y, h, t, m), C.counted s y);
-  }
+  inspects_all w l =
+      own_all a
+      (ap (λ (o : Events). take o.count o.list) l ∙ take-append_seam (events (tasks_table a.tasks)) _)
+      (omega arith)
+      (λ s y k i h t m. omega (arith, C.below (by s k i) (y, h, t, m), C.counted s y))

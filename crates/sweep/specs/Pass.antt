@@ -1,10 +1,11 @@
 -- The pass over openings and closings by what the code has at hand: the lent bytes, the grid's cell, where a task's elements begin. Assumes nothing.
 use Rattle.std.specs.Prelude.{ℕ, suc, ◌+◌, ◌*◌, ◌-◌, ◌/◌, ◌%◌, ◌≤◌, ◌<◌, Bool, true, false, ◌||◌, cond, List, ◌≡◌, T, eqb, length, get_or, set}
 use Rattle.rules.specs.Words.{total, every}
-use Rattle.rules.specs.Windows.{instances}
-use Rattle.rules.specs.Table.{most_tasks, most_elements, longest}
+use Rattle.rules.specs.Windows.{Table, instances}
+use Rattle.rules.specs.Table.{most_tasks, most_signals, most_elements, longest}
 use Rattle.rules.specs.Bytes.{wi, ri, size_of, start_of, schedule_in}
-use Rattle.rules.specs.Reading.{Grid, cell_at, writes_in}
+use Rattle.rules.specs.Reading.{Grid, table_of, no_signals, cell_at, writes_in}
+use Rattle.rules.specs.declared.Tasks.{Tasks}
 use Rattle.theory.specs.Sweep.{Pass, is_opening, reading, writing, publishing, never, none_held, events, sweep}
 use Rattle.events.specs.Order.{tasks_table}
 use Rattle.accept.specs.Accepts.{its_table}
@@ -15,6 +16,10 @@ use Rattle.form.specs.declared.users.Users.{Users}
 use Rattle.sweep.specs.declared.Places.{Places}
 use Rattle.sweep.specs.declared.swept.Swept.{Swept}
 use Rattle.sweep.specs.declared.swept.Turn.{Turn}
+
+-- the table of these tasks and accesses: the pass over a signal is that of every table with them
+abbrev pub grid_table : Tasks → Grid → Table
+grid_table tasks grid = table_of tasks no_signals grid
 
 -- what the code keeps of the pass
 abbrev pub pass_of : Swept → Pass
@@ -105,20 +110,22 @@ module _ (a : Accepted) where
 
   -- ---- what a check starts from
 
-  -- for signal s the table's openings and closings in their order, its places, and bytes that reach to the end of its records
+  -- for signal s, one of the table's own or not, the table's openings and closings in their order, its places, and bytes that reach to the end of its records
   pub record Inspects (s : ℕ) (list : List ℕ) (places : Places) (bytes : List ℕ) : Type 0 where
     pub listed : list ≡ events (tasks_table a.tasks)
-    pub signal : s < a.signals.count
+    pub signal : s < most_signals
     pub placed : ArePlaces s places
     pub whole : total (size_of (its_table a)) (suc s) ≤ length bytes
     pub low : Low s bytes
 
-  -- for all signals the same, but for the places
-  pub record InspectsAll (list : List ℕ) (bytes : List ℕ) : Type 0 where
+  -- for so many signals the same, but for the places; all their records are no longer than the longest schedule, as those of the table's own signals are
+  pub record InspectsAll (signals : ℕ) (list : List ℕ) (bytes : List ℕ) : Type 0 where
     pub listed : list ≡ events (tasks_table a.tasks)
-    pub whole : total (size_of (its_table a)) a.signals.count ≤ length bytes
-    pub low : (s : ℕ) → s < a.signals.count → Low s bytes
+    pub few : signals ≤ most_signals
+    pub whole : total (size_of (its_table a)) signals ≤ length bytes
+    pub short : total (size_of (its_table a)) signals ≤ longest_bytes
+    pub low : (s : ℕ) → s < signals → Low s bytes
 
-  -- no signal's pass meets a mistake
-  unfoldable pub all_swept : List ℕ → ℕ → Bool
-  all_swept bytes n = every n (λ s. (sweep (its_table a) (schedule_in (its_table a) bytes) s).right)
+-- no signal's pass meets a mistake
+unfoldable pub all_swept : Table → List ℕ → ℕ → Bool
+all_swept tab bytes n = every n (λ s. (sweep tab (schedule_in tab bytes) s).right)

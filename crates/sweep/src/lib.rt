@@ -11,7 +11,7 @@ ghost use Rattle.rules.specs.Bytes.{size_of, schedule_in};
 ghost use Rattle.theory.specs.Sweep.{sweep};
 ghost use Rattle.accept.specs.Accepts.{its_table};
 ghost use Rattle.accept.specs.declared.Accepted.{Accepted};
-ghost use Rattle.sweep.specs.Pass.{has, element_at, Inside, Inspects, longest_bytes, AreUsers, ArePlaces, InspectsAll, all_swept, AreActs};
+ghost use Rattle.sweep.specs.Pass.{grid_table, has, element_at, Inside, Inspects, longest_bytes, AreUsers, ArePlaces, InspectsAll, all_swept, AreActs};
 
 use crate::swept::{Swept, Turn};
 use accept::Accepted;
@@ -62,8 +62,8 @@ fn acts_of(accepted: &Accepted, signal: usize) -> [bool; KINDS]
 }
 
 // One pass over the openings and closings.
-#[tactic(auto, using(crate::proofs::Inspected::pass_right))]
-fn signal_passes(
+#[tactic(auto, using(crate::proofs::Inspected::pass_right, crate::proofs::Alone::sweep_alone))]
+pub fn signal_passes(
     events: &[u32],
     accepted: &Accepted,
     signal: usize,
@@ -71,7 +71,8 @@ fn signal_passes(
     schedule: &[u8],
 ) -> bool
     requires { Inspects accepted.now signal events.now places schedule.now }
-    ensures { result ≡ (sweep (its_table accepted.now) (schedule_in (its_table accepted.now) schedule.now) signal).right }
+    ensures own { result ≡ (sweep (its_table accepted.now) (schedule_in (its_table accepted.now) schedule.now) signal).right }
+    ensures alone { result ≡ (sweep (grid_table accepted.now.tasks accepted.now.grid) (schedule_in (grid_table accepted.now.tasks accepted.now.grid) schedule.now) signal).right }
 {
     let acts = acts_of(accepted, signal);
     let mut swept = Swept::first();
@@ -107,15 +108,16 @@ pub fn places_at(users: &Users, signal: usize, next: &mut usize) -> Places
     places
 }
 
-// Signal by signal, until one does not pass.
-#[tactic(auto, using(form::proofs::Steps::total_none, crate::proofs::Placed::users_are, crate::proofs::Whole::start_low, crate::proofs::Whole::swept_none, crate::proofs::Whole::swept_more, crate::proofs::Whole::swept_fails))]
-pub fn signals_pass(events: &[u32], accepted: &Accepted, schedule: &[u8]) -> bool
-    requires { InspectsAll accepted.now events.now schedule.now }
-    ensures { result ≡ all_swept accepted.now schedule.now accepted.now.signals.count }
+// So many signals, the table's own or another number, one by one until one does not pass.
+#[tactic(auto, using(form::proofs::Steps::total_none, crate::proofs::Placed::users_are, crate::proofs::Whole::swept_none, crate::proofs::Whole::swept_more, crate::proofs::Whole::swept_fails, crate::proofs::Alone::all_alone))]
+pub fn signals_pass(events: &[u32], accepted: &Accepted, signals: usize, schedule: &[u8]) -> bool
+    requires { InspectsAll accepted.now signals events.now schedule.now }
+    ensures own { result ≡ all_swept (its_table accepted.now) schedule.now signals }
+    ensures alone { result ≡ all_swept (grid_table accepted.now.tasks accepted.now.grid) schedule.now signals }
 {
     let users = Users::new(accepted);
     let mut next = 0;
-    for s in 0..accepted.signals.count {
+    for s in 0..signals {
         let places = places_at(&users, s, &mut next);
         if !signal_passes(events, accepted, s, places, schedule) {
             return false;

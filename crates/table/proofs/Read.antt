@@ -1,9 +1,8 @@
 -- The sections one after the other, and the verdict on the whole, are what rules reads of the bytes.
-use Rattle.std.specs.Prelude.{Result, Ok, Err}
+use Rattle.std.specs.Prelude.{Result, Err}
 use mathlib.Core.Path.{◌≡◌, sym, ap, ◌∙◌}
 use mathlib.Core.List.{List}
 use Prim.Native.Nat.{ℕ}
-use native.Mathlib.Omega.{arith}
 use Rattle.rules.specs.Numbers.{Told, told}
 use Rattle.rules.specs.Records.{End}
 use Rattle.rules.specs.Answers.{table_says}

@@ -29,8 +29,9 @@ pub fn apart_below(
     requires { (signal < most_signals) × (task < windowed.tasks.count) }
     ensures { result ≡ apart_below windowed.tasks (writes_in grid.now signal) task }
 {
-    (0..task).all(|lower| !writes(grid, lower, signal)
-        || !meet(windowed.tasks.list[lower], windowed.tasks.list[task]))
+    // Read once, not for each pair.
+    let own = windowed.tasks.list[task];
+    (0..task).all(|lower| !writes(grid, lower, signal) || !meet(windowed.tasks.list[lower], own))
 }
 
 // Whether no two writers of the signal meet.

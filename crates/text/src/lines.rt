@@ -54,13 +54,25 @@ pub fn put_signal(page: &mut Page, signal: u8, count: u8)
     put_last(page, ELEMENTS, u64::from(count));
 }
 
-// `name` says whether the instance writes or reads.
-pub fn put_use(page: &mut Page, name: &[u8], task: u8, instance: u16, element: u8)
+// The pieces of a use's line. `name` says whether the instance writes or reads.
+fn put_pieces(page: &mut Page, name: &[u8], task: u8, instance: u16, element: u8)
     ensures { Puts (text_of (use_line name.now task instance element ∷ [])) page.old page.new }
 {
     put_named(page, name, u64::from(task));
     put_named(page, INSTANCE, u64::from(instance));
     put_last(page, ELEMENT, u64::from(element));
+}
+
+// A page of its own for the line, so that the number of bytes in use goes from piece to piece in a register and not through memory.
+pub fn put_use(page: &mut Page, name: &[u8], task: u8, instance: u16, element: u8)
+    ensures { Puts (text_of (use_line name.now task instance element ∷ [])) page.old page.new }
+{
+    let mut line = Page {
+        bytes: page.bytes,
+        used: page.used,
+    };
+    put_pieces(&mut line, name, task, instance, element);
+    page.used = line.used;
 }
 
 pub fn put_total(page: &mut Page, sum: u64)

@@ -76,7 +76,7 @@ module _ (a : Accepted) (bytes : List ℕ) (e : (form_says (its_table a) bytes).
   shared_says s q = ap (λ (f : Option ℕ). placed f shared (tell all_done 0)) (sym q) ∙ s shared (tell all_done 0)
 
   -- what the pass over all signals says is what the check says
-  pub pass_says : {r : Bool} → r ≡ all_swept a bytes a.signals.count → r ≡ eqb (check_says tab bytes).number all_done
+  pub pass_says : {r : Bool} → r ≡ all_swept tab bytes a.signals.count → r ≡ eqb (check_says tab bytes).number all_done
   pass_says q =
       let exact = accepts a bytes counted in
       agree

@@ -34,7 +34,7 @@ pub fn passes(accepted: &Accepted, schedule: &[u8]) -> bool
 {
     let events = order_events(accepted.tasks, accepted.hyper);
     let turns = events.numbers();
-    signals_pass(turns, accepted, schedule)
+    signals_pass(turns, accepted, accepted.signals.count, schedule)
 }
 
 // A reader sent wrong anywhere comes before a shared element anywhere.

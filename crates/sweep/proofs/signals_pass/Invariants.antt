@@ -7,4 +7,4 @@ use Rattle.sweep.specs.Pass.{all_swept}
 use Rattle.sweep.proofs.signals_pass.Given as goal
 
 abbrev pub invariant-loop-s : goal.invariant-loop-s
-invariant-loop-s l = (l.next ≡ total (size_of (its_table l.accepted)) l.s) × (all_swept l.accepted l.schedule l.s ≡ true)
+invariant-loop-s l = (l.next ≡ total (size_of (its_table l.accepted)) l.s) × (all_swept (its_table l.accepted) l.schedule l.s ≡ true)

@@ -1,13 +1,22 @@
--- `untils::Untils::apart_from` meets its contract: the test of all instances is the test of every number below their count.
-use Rattle.std.proofs.Common.{◌≡◌, ℕ, Bool, true, false, not, refl, rules, tests, arith}
-use Rattle.std.proofs.lemmas.Iterator.{cases_from_all, YieldsList-from_range}
-use Rattle.faults.specs.Faults.{apart_from, clashing, held_at}
-use Rattle.faults.proofs.Clashing.{every_below}
+-- `untils::Untils::apart_from` meets its contract: no instance below this one clashes.
+use mathlib.Core.Path.{ap, ◌∙◌}
+use mathlib.Core.Bool.{not}
+use native.Mathlib.Omega.{arith}
+use borrow.Author.Count.{below_none, below_more}
+use Rattle.faults.specs.Faults.{apart_from}
+use Rattle.faults.proofs.Clashing.{every_fails, every_holds, same_clash}
 use Rattle.faults.proofs.untils.Untils.apart_from.Goals as goal
+
+pub loop-instance-init : goal.loop-instance-init
+loop-instance-init c = below_none _
+
+pub returns-then-clashes : goal.returns-then-clashes
+unfolding apart_from
+returns-then-clashes c = every_fails _ _ _ c.loop-instance-test.true (ap not (same_clash _ c.clashes.ensures c.written.ensures ∙ c.if-clashes.true))
+
+pub loop-instance-preserved : goal.loop-instance-preserved
+loop-instance-preserved c = below_more _ _ c.loop-instance.invariant (ap not (same_clash _ c.clashes.ensures c.written.ensures ∙ c.if-clashes.false))
 
 pub returns : goal.returns
 unfolding apart_from
-returns c =
-    let p : ℕ → Bool = λ i. not (clashing (held_at c.args.writer c.args.self.now.ticks c.args.self.now.view.schedule.now i) c.args.held) in
-    every_below _ c.args.records p
-    (cases_from_all _ _ _ (λ i. p i ≡ true) (λ i. p i ≡ false) c.all.ensures.ran (YieldsList-from_range 0 c.args.records c.args.records refl (omega arith)) (λ x q k. search (rules, tests)) (λ x q k. search (rules, tests)))
+returns c = every_holds _ _ (λ j l. c.loop-instance.invariant j (omega arith))

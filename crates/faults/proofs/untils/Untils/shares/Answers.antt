@@ -12,8 +12,8 @@ written-held-requires c = in_reach c.args.self.now.view _ c.writer.ensures _ c.r
 
 pub returns-then-clashes : goal.returns-then-clashes
 returns-then-clashes c = let u = c.args.self.now in
-    shares_carried u _ _ c.requires (c.written-held.ensures ∙ value_is u.view _ c.writer.ensures u.ticks u.kept _ c.requires) c.carried_value.ensures c.clashes.ensures c.if-clashes.true
+    shares_carried u _ _ c.requires (c.written-held.ensures ∙ value_is u.view _ c.writer.ensures u.ticks.now u.kept _ c.requires) c.carried_value.ensures c.clashes.ensures c.if-clashes.true
 
 pub returns-else-clashes : goal.returns-else-clashes
 returns-else-clashes c = let u = c.args.self.now in
-    shares_earlier u _ _ c.requires (c.written-held.ensures ∙ value_is u.view _ c.writer.ensures u.ticks u.kept _ c.requires) c.carried_value.ensures c.clashes.ensures c.if-clashes.false c.apart_from_earlier.ensures
+    shares_earlier u _ _ c.requires (c.written-held.ensures ∙ value_is u.view _ c.writer.ensures u.ticks.now u.kept _ c.requires) c.carried_value.ensures c.clashes.ensures c.if-clashes.false c.apart_from_earlier.ensures

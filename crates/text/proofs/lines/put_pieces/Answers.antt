@@ -1,9 +1,9 @@
--- `put_use` meets its contract. Assumes nothing.
+-- `put_pieces` meets its contract. Assumes nothing.
 use mathlib.Core.List.{◌++◌}
 use mathlib.Core.Path.{◌∙◌}
 use Rattle.rules.specs.Listing.{ascii, named}
 use Rattle.text.proofs.Put.{joined, led}
-use Rattle.text.proofs.lines.put_use.Goals as goal
+use Rattle.text.proofs.lines.put_pieces.Goals as goal
 
 pub returns : goal.returns
 returns c =

@@ -1,4 +1,4 @@
-use Rattle.console.proofs.page.Page.+put_figures.Given as goal
+use Rattle.console.proofs.page.+put_figures.Given as goal
 
 abbrev pub decreases-put_figures : goal.decreases-put_figures
 decreases-put_figures l = l.most
