@@ -11,6 +11,9 @@ use verdict::check_with;
 pub fn check_schedule(table: &[u8], schedule: &[u8]) -> Answer
     ensures { CheckGives table.now schedule.now result }
 {
-    let accepted = accept(table)?;
-    check_with(&accepted, schedule)
+    // By reference, so that the table does not lie on the stack twice.
+    match &accept(table) {
+        Ok(accepted) => check_with(accepted, schedule),
+        Err(refusal) => Err(*refusal),
+    }
 }
