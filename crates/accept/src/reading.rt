@@ -6,8 +6,7 @@ use rules::Refusal;
 use sections::grid::read_grid;
 use table::read_table;
 
-// 1 to 11, or the table. Not inlined, so that what reading needs of the stack is free again when the caller goes on.
-#[inline(never)]
+// 1 to 11, or the table.
 pub fn accept(bytes: &[u8]) -> Result<Accepted, Refusal>
     ensures { Accepts bytes.now result }
 {
