@@ -9,7 +9,7 @@ ghost use Rattle.rules.specs.Table.{Fits, most_signals, longest};
 ghost use Rattle.rules.specs.Reading.{table_of, writes_in, reads_in};
 ghost use Rattle.signals.specs.Forms.{binding_of, until_of};
 
-pub use reading::accept;
+pub use reading::{accept, accept_apart};
 use rules::{MOST_SIGNALS, MOST_TASKS, Signals, Tasks};
 use signals::Publication;
 use windows::WindowedTasks;

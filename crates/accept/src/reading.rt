@@ -19,3 +19,11 @@ pub fn accept(bytes: &[u8]) -> Result<Accepted, Refusal>
         hyper,
     })
 }
+
+// The same, not inlined, so that what reading needs of the stack is free again when the caller goes on.
+#[inline(never)]
+pub fn accept_apart(bytes: &[u8]) -> Result<Accepted, Refusal>
+    ensures { Accepts bytes.now result }
+{
+    accept(bytes)
+}
